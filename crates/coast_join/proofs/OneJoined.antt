@@ -54,7 +54,7 @@ module _ (chains : List Chain) (gaps : List Gap) (a b : List (Option ℕ)) (na :
 round_prop : (path : List Loc) → IsProp (IsRound path)
 round_prop path = hlevel props
 
-ring_from_fields : (r s : CoastRing) → r.name ≡ s.name → r.path ≡ s.path → r ≡ s
+pub ring_from_fields : (r s : CoastRing) → r.name ≡ s.name → r.path ≡ s.path → r ≡ s
 ring_from_fields r s n p = λ i. record {
   name = n i;
   path = p i;

@@ -1,5 +1,5 @@
 -- What rings are sorted out to, their land, and the water about it: each of these exists.
-use Rattle.std.proofs.Common.{◌==◌, ◌%◌, true, List, ◌∷◌, ◌++◌, filter, map, not, pos, refl, ap, ◌∙◌}
+use Rattle.std.proofs.Common.{◌==◌, ◌%◌, true, false, List, [], ◌∷◌, ◌++◌, filter, map, not, pos, refl, ap, ◌∙◌}
 use Rattle.lists.specs.Rising.{CountedListsExist, count_of}
 use Rattle.lists.proofs.ListsKit.{count-picked, odd_once, picked, rising-picked}
 use Rattle.osm_geom.specs.declared.edge.Edge.{Edge}
@@ -17,6 +17,7 @@ use Rattle.osm_segments.specs.Counts.{HasEvenNodes}
 use Rattle.osm_sides.proofs.SidesKit.{directed_counts, directed_is_sided}
 use Rattle.osm_geom.specs.InPlane.SidedLaws.{LatticeIsSided}
 use Rattle.coast_join.specs.declared.ring.CoastRing.{CoastRing}
+use Rattle.coast_sides.specs.CutSorting.{RoundsEnd}
 use Rattle.coast_sides.specs.ExistenceLaws.{LandExists, SortedExists, WaterExists}
 use Rattle.coast_sides.specs.Land.{HaveNoConflicts, IsLand}
 use Rattle.coast_sides.specs.Laws.{CancellingKeepsEven}
@@ -29,7 +30,9 @@ use Rattle.coast_sides.specs.declared.side_nodes.WorldSide.{WorldSide}
 use Rattle.coast_sides.specs.declared.side_nodes.WorldSide.TheVariants.{East, North, South, West}
 use Rattle.coast_sides.proofs.Clearing.{clear_left, left_parity, none_conflict}
 use Rattle.coast_sides.proofs.Conflicts.{kept_clear}
+use Rattle.coast_sides.proofs.CutDowns.{comes_from, cut_down_exists, names_still_rise}
 use Rattle.coast_sides.proofs.EvenRings.{loc_cmp_total, seg_cmp_total}
+use Rattle.coast_sides.proofs.KeptRings.{chosen_clear, chosen_exist, kept_by}
 use Rattle.coast_sides.proofs.SideNodes.{greatest_on, is_side, least_on}
 use Rattle.coast_sides.proofs.SidedSegments.{clear_sided, even_sided, plane_sided}
 
@@ -51,6 +54,26 @@ module _ (counted : CountedListsExist seg_cmp) where
   distinct_exist segs = let r = counted (λ n. true) segs in (r.0, record { once = r.2; rising = r.1 })
 
   -- ---- rings sorted out
+
+  pub sorted_exists : LocationOrderTellsApart → ConflictIsSymmetric → RoundsEnd → SortedExists
+  sorted_exists places symmetric ends false rings =
+      let segs = all_segments rings in
+      let distinct = distinct_exist segs in
+      let kept = filter (λ ring. not (is_left_out segs ring)) rings in (
+        record { kept = kept; left_out = filter (is_left_out segs) rings; pairs = conflicts_of distinct.0; cuts = [] },
+        record { left_out = refl; kept = refl; pairs = record { distinct = distinct.0; once = distinct.1; are = refl }; uncut = refl },
+        λ names. kept_clear rings kept refl,
+      )
+  sorted_exists places symmetric ends true rings =
+      let distinct = distinct_exist (all_segments rings) in
+      let down = cut_down_exists places ends rings in
+      let left = down.0 in
+      let kept = filter (kept_by left) left in
+      let left_out = filter (λ ring. not (kept_by left ring)) left in (
+        record { kept = kept; left_out = left_out; pairs = conflicts_of distinct.0; cuts = down.1 },
+        record { left = left; cut = down.2; chosen = chosen_exist left; pairs = record { distinct = distinct.0; once = distinct.1; are = refl } },
+        λ names. chosen_clear symmetric left kept left_out (names_still_rise rings left down.1 down.2 (names refl)) (λ r c. (comes_from rings left down.1 down.2 r c).clear) (chosen_exist left),
+      )
 
   module _ (exact : SegmentOrderTellsApart) (whole : DirectedAreWhole) (directions : DirectionsExist) where
     -- ---- land

@@ -1,5 +1,5 @@
 -- What rings are sorted out to, their land, and the water about it: there is one of each.
-use Rattle.std.proofs.Common.{◌≡◌, ◌⊎◌, ⊎_elim, ℕ, zero, suc, ◌-◌, ◌%◌, ◌<◌, ◌≤◌, Bool, true, List, ◌++◌, Contains, filter, length, map, refl, sym, ap, subst, ◌∙◌, arith}
+use Rattle.std.proofs.Common.{◌≡◌, ◌⊎◌, ⊎_elim, ℕ, zero, suc, ◌-◌, ◌%◌, ◌<◌, ◌≤◌, Bool, true, false, List, ◌++◌, Contains, filter, length, map, refl, sym, ap, subst, ◌∙◌, arith}
 use Rattle.std.specs.declared.cmp.Ordering.{Ordering}
 use Rattle.std.specs.declared.cmp.Ordering.TheVariants.{Equal}
 use Rattle.std.specs.Cmp.{IsTotalOrder}
@@ -21,6 +21,7 @@ use Rattle.osm_sides.specs.Directions.{AreDirected}
 use Rattle.osm_sides.specs.Laws.{DirectionsAreOne}
 use Rattle.coast_join.specs.declared.ring.CoastRing.{CoastRing}
 use Rattle.coast_join.specs.Line.{origin}
+use Rattle.coast_sides.specs.Choice.{AreChosen}
 use Rattle.coast_sides.specs.Land.{IsLand}
 use Rattle.coast_sides.specs.OnenessLaws.{LandIsOne, SortedIsOne, WaterIsOne}
 use Rattle.coast_sides.specs.Segments.{all_segments}
@@ -28,7 +29,9 @@ use Rattle.coast_sides.specs.Sorting.{AreConflicts}
 use Rattle.coast_sides.specs.Water.{AreSides, IsSide, is_east, is_north, is_south, is_west, north_east, north_west, pieces}
 use Rattle.coast_sides.specs.WrongWays.{runs_against}
 use Rattle.coast_join.specs.Joined.{south_east, south_west}
+use Rattle.coast_sides.proofs.CutDowns.{cut_down_one}
 use Rattle.coast_sides.proofs.EvenRings.{loc_cmp_total, seg_cmp_total}
+use Rattle.coast_sides.proofs.KeptRings.{chosen_one}
 
 -- ---- lists in strict order with the same members
 
@@ -80,6 +83,19 @@ module _ (exact : SegmentOrderTellsApart) where
   conflicts_one segs a b s t =
       let distinct = told_by_counts s.distinct t.distinct s.once.rising t.once.rising (λ z. s.once.once z ∙ sym (t.once.once z)) in
       s.are ∙ (ap conflicts_of distinct ∙ sym t.are)
+
+  pub sorted_one : SortedIsOne
+  sorted_one false rings a b s t =
+      let kept = s.kept ∙ sym t.kept in
+      let left = s.left_out ∙ sym t.left_out in
+      let pairs = conflicts_one (all_segments rings) a.pairs b.pairs s.pairs t.pairs in
+      let cuts = s.uncut ∙ sym t.uncut in
+      λ i. record { kept = kept i; left_out = left i; pairs = pairs i; cuts = cuts i }
+  sorted_one true rings a b s t =
+      let down = cut_down_one rings s.left t.left a.cuts b.cuts s.cut t.cut in
+      let chosen = chosen_one t.left a.kept a.left_out b.kept b.left_out (subst (λ (rs : List CoastRing). AreChosen rs a.kept a.left_out) down.0 s.chosen) t.chosen in
+      let pairs = conflicts_one (all_segments rings) a.pairs b.pairs s.pairs t.pairs in
+      λ i. record { kept = chosen.0 i; left_out = chosen.1 i; pairs = pairs i; cuts = down.1 i }
 
   module _ (directions : DirectionsAreOne) where
     land_edges_one : (segs : List Seg) (a b : List Edge) → IsLand segs a → IsLand segs b → a ≡ b

@@ -1,9 +1,9 @@
 -- The segments of conflicting pairs are those that conflict with some segment.
-use Rattle.std.proofs.Common.{◌≡◌, ℕ, ◌<◌, ⊎_elim, Bool, true, false, not, min, List, [], ◌∷◌, ◌++◌, filter, Option, Some, None, option_map, Contains, refl, sym, ap, ◌∙◌, subst, arith, zero, suc}
+use Rattle.std.proofs.Common.{◌≡◌, ◌⊎◌, inl, inr, ℕ, ◌<◌, ⊎_elim, Bool, true, false, not, ◌&&◌, ◌||◌, min, List, [], ◌∷◌, ◌++◌, filter, Option, Some, None, option_map, Contains, refl, sym, ap, ◌∙◌, subst, arith, zero, suc}
 use Rattle.std.specs.Prelude.{is_some}
 use Rattle.std.specs.List.{filter_map, list_any}
 use Rattle.std.specs.Ordering.{is_eq}
-use Rattle.std.proofs.lemmas.Bool.{false≢true, or_left, or_right}
+use Rattle.std.proofs.lemmas.Bool.{and_from, false≢true, or_left, or_right}
 use Rattle.std.proofs.lemmas.Cmp.{tied_itself}
 use Rattle.std.proofs.lemmas.List.Elements.{Contains-append_cases, Contains-append_left, Contains-append_right}
 use Rattle.osm_lattice.specs.declared.conflicts.Kind.{Kind}
@@ -19,6 +19,7 @@ use Rattle.osm_segments.specs.Pairs.{conflicts_of, pair_of}
 use Rattle.osm_segments.specs.declared.pairs.Pair.{Pair}
 use Rattle.coast_join.specs.declared.ring.CoastRing.{CoastRing}
 use Rattle.coast_sides.specs.declared.cut.Cut.{Cut}
+use Rattle.coast_sides.specs.ChoiceSteps.{are_paired, is_same_segment}
 use Rattle.coast_sides.specs.Land.{HaveNoConflicts}
 use Rattle.coast_sides.specs.Segments.{all_segments, segments_round}
 use Rattle.coast_sides.specs.Sorting.{AreConflicts, IsSorted, conflicts_with, is_in_pair, is_left_out}
@@ -51,7 +52,7 @@ paired s t e = by (conflict_of s t) refl e
     by None d e = absurd (false≢true e)
     by (Some k) d e = record { pair = record { kind = k; first = s; second = t }; is = ap (option_map (λ k. record { kind = k; first = s; second = t })) d; first = refl; second = refl }
 
-tied : (s : Seg) → is_eq (seg_cmp s s) ≡ true
+pub tied : (s : Seg) → is_eq (seg_cmp s s) ≡ true
 tied s = ap is_eq (tied_itself seg_cmp_total s)
 
 in_first : (s : Seg) (p : Pair) → p.first ≡ s → is_in_pair s p ≡ true
@@ -61,17 +62,48 @@ in_second : (s : Seg) (p : Pair) → p.second ≡ s → is_in_pair s p ≡ true
 in_second s p e = or_right (is_eq (seg_cmp p.first s)) (is_eq (seg_cmp p.second s)) (ap (λ u. is_eq (seg_cmp u s)) e ∙ tied s)
 
 -- a segment doesn't conflict with itself
-unlike_itself : (s : Seg) → is_some (conflict_of s s) ≡ true → ⊥
+pub unlike_itself : (s : Seg) → is_some (conflict_of s s) ≡ true → ⊥
 unlike_itself s e = let none : conflict_of s s ≡ None = rw (tied s) refl in false≢true (sym (ap is_some none) ∙ e)
 
-is_eq_same : SegmentOrderTellsApart → (s t : Seg) → is_eq (seg_cmp s t) ≡ true → s ≡ t
+pub is_eq_same : SegmentOrderTellsApart → (s t : Seg) → is_eq (seg_cmp s t) ≡ true → s ≡ t
 is_eq_same exact s t e = (exact s t).0 (equal_from (seg_cmp s t) e)
 
 -- ---- the pairs among segments
 
+-- a pair of these two segments, whichever is first
+pub record PairOf (s t : Seg) (pairs : List Pair) : Type 0 where
+  pub item : Pair
+  pub member : Contains pairs item
+  pub are : ((item.first ≡ s) × (item.second ≡ t)) ⊎ ((item.first ≡ t) × (item.second ≡ s))
+
+in_made : (s t : Seg) (pairs : List Pair) (made : PairOf s t pairs) → is_in_pair s made.item ≡ true
+in_made s t pairs made = by made.are
+  where
+    by : ((made.item.first ≡ s) × (made.item.second ≡ t)) ⊎ ((made.item.first ≡ t) × (made.item.second ≡ s)) → is_in_pair s made.item ≡ true
+    by (inl e) = in_first s made.item e.0
+    by (inr e) = in_second s made.item e.1
+
+-- the two segments of a pair, in either order
+paired_forth : (s t : Seg) (p : Pair) → p.first ≡ s → p.second ≡ t → are_paired s t p ≡ true
+paired_forth s t p e f =
+    or_left (is_same_segment p.first s && is_same_segment p.second t) (is_same_segment p.second s && is_same_segment p.first t)
+    (and_from (is_same_segment p.first s) (is_same_segment p.second t) (ap (λ u. is_same_segment u s) e ∙ tied s) (ap (λ u. is_same_segment u t) f ∙ tied t))
+
+paired_back : (s t : Seg) (p : Pair) → p.first ≡ t → p.second ≡ s → are_paired s t p ≡ true
+paired_back s t p e f =
+    or_right (is_same_segment p.first s && is_same_segment p.second t) (is_same_segment p.second s && is_same_segment p.first t)
+    (and_from (is_same_segment p.second s) (is_same_segment p.first t) (ap (λ u. is_same_segment u s) f ∙ tied s) (ap (λ u. is_same_segment u t) e ∙ tied t))
+
+pub pair_passes : (s t : Seg) (pairs : List Pair) → PairOf s t pairs → Passes (are_paired s t) pairs
+pair_passes s t pairs made = record { item = made.item; member = made.member; passes = by made.are }
+  where
+    by : ((made.item.first ≡ s) × (made.item.second ≡ t)) ⊎ ((made.item.first ≡ t) × (made.item.second ≡ s)) → are_paired s t made.item ≡ true
+    by (inl e) = paired_forth s t made.item e.0 e.1
+    by (inr e) = paired_back s t made.item e.0 e.1
+
 module _ (exact : SegmentOrderTellsApart) (symmetric : ConflictIsSymmetric) where
   -- a pair is of two of the segments, which conflict
-  pair_stands : (segs : List Seg) (p : Pair) → Contains (conflicts_of segs) p → Contains segs p.first × Contains segs p.second × (is_some (conflict_of p.first p.second) ≡ true)
+  pub pair_stands : (segs : List Seg) (p : Pair) → Contains (conflicts_of segs) p → Contains segs p.first × Contains segs p.second × (is_some (conflict_of p.first p.second) ≡ true)
   pair_stands [] p c = absurd (no_member p c)
   pair_stands (s ∷ ts) p c =
       ⊎_elim
@@ -88,7 +120,7 @@ module _ (exact : SegmentOrderTellsApart) (symmetric : ConflictIsSymmetric) wher
           )
 
   -- two of the segments that conflict are in a pair
-  pair_made : (segs : List Seg) (s t : Seg) → Contains segs s → Contains segs t → is_some (conflict_of s t) ≡ true → Passes (is_in_pair s) (conflicts_of segs)
+  pub pair_made : (segs : List Seg) (s t : Seg) → Contains segs s → Contains segs t → is_some (conflict_of s t) ≡ true → PairOf s t (conflicts_of segs)
   pair_made [] s t c d e = absurd (no_member s c)
   pair_made (x ∷ xs) s t c d e =
       ⊎_elim
@@ -96,18 +128,18 @@ module _ (exact : SegmentOrderTellsApart) (symmetric : ConflictIsSymmetric) wher
       (λ (c : Contains xs s). ⊎_elim (λ (at : x ≡ t). back at c) (λ (d : Contains xs t). later (pair_made xs s t c d e)) (member_cases x t xs d))
       (member_cases x s xs c)
     where
-      later : Passes (is_in_pair s) (conflicts_of xs) → Passes (is_in_pair s) (filter_map (pair_of x) xs ++ conflicts_of xs)
-      later r = record { item = r.item; member = Contains-append_right (filter_map (pair_of x) xs) (conflicts_of xs) r.item r.member; passes = r.passes }
+      later : PairOf s t (conflicts_of xs) → PairOf s t (filter_map (pair_of x) xs ++ conflicts_of xs)
+      later r = record { item = r.item; member = Contains-append_right (filter_map (pair_of x) xs) (conflicts_of xs) r.item r.member; are = r.are }
 
-      front : x ≡ s → Contains xs t → Passes (is_in_pair s) (filter_map (pair_of x) xs ++ conflicts_of xs)
+      front : x ≡ s → Contains xs t → PairOf s t (filter_map (pair_of x) xs ++ conflicts_of xs)
       front is d =
           let p = paired x t (subst (λ u. is_some (conflict_of u t) ≡ true) (sym is) e) in
-          record { item = p.pair; member = Contains-append_left (filter_map (pair_of x) xs) (conflicts_of xs) p.pair (filter_map_has (pair_of x) xs t p.pair d p.is); passes = in_first s p.pair (p.first ∙ is) }
+          record { item = p.pair; member = Contains-append_left (filter_map (pair_of x) xs) (conflicts_of xs) p.pair (filter_map_has (pair_of x) xs t p.pair d p.is); are = inl (p.first ∙ is, p.second) }
 
-      back : x ≡ t → Contains xs s → Passes (is_in_pair s) (filter_map (pair_of x) xs ++ conflicts_of xs)
+      back : x ≡ t → Contains xs s → PairOf s t (filter_map (pair_of x) xs ++ conflicts_of xs)
       back at c =
           let p = paired x s (ap is_some (symmetric x s) ∙ (ap (λ u. is_some (conflict_of s u)) at ∙ e)) in
-          record { item = p.pair; member = Contains-append_left (filter_map (pair_of x) xs) (conflicts_of xs) p.pair (filter_map_has (pair_of x) xs s p.pair c p.is); passes = in_second s p.pair p.second }
+          record { item = p.pair; member = Contains-append_left (filter_map (pair_of x) xs) (conflicts_of xs) p.pair (filter_map_has (pair_of x) xs s p.pair c p.is); are = inr (p.first ∙ at, p.second) }
 
   -- ---- segments taken once
 
@@ -119,10 +151,10 @@ module _ (exact : SegmentOrderTellsApart) (symmetric : ConflictIsSymmetric) wher
   some_of zero m e h = absurd (omega arith)
   some_of (suc n) m e h = omega arith
 
-  once_stands : (segs distinct : List Seg) → AreDistinct segs distinct → (s : Seg) → Contains segs s → Contains distinct s
+  pub once_stands : (segs distinct : List Seg) → AreDistinct segs distinct → (s : Seg) → Contains segs s → Contains distinct s
   once_stands segs distinct are s (k, h, e) = stands exact s distinct (some_once (count_of seg_cmp s segs) (count_of seg_cmp s distinct) (are.once s) (counted s segs k h e))
 
-  from_once : (segs distinct : List Seg) → AreDistinct segs distinct → (s : Seg) → Contains distinct s → Contains segs s
+  pub from_once : (segs distinct : List Seg) → AreDistinct segs distinct → (s : Seg) → Contains distinct s → Contains segs s
   from_once segs distinct are s (k, h, e) = stands exact s segs (some_of (count_of seg_cmp s segs) (count_of seg_cmp s distinct) (are.once s) (counted s distinct k h e))
 
   pub in_pairs : (segs distinct : List Seg) → AreDistinct segs distinct → (s : Seg) → Contains segs s → list_any (is_in_pair s) (conflicts_of distinct) ≡ conflicts_with segs s
@@ -146,7 +178,7 @@ module _ (exact : SegmentOrderTellsApart) (symmetric : ConflictIsSymmetric) wher
       back e =
           let r = some_passes (λ t. is_some (conflict_of s t)) segs e in
           let p = pair_made distinct s r.item (once_stands segs distinct are s c) (once_stands segs distinct are r.item r.member) r.passes in
-          any_from (is_in_pair s) (conflicts_of distinct) p.item p.member p.passes
+          any_from (is_in_pair s) (conflicts_of distinct) p.item p.member (in_made s r.item (conflicts_of distinct) p)
 
   -- ---- rings
 
@@ -164,7 +196,7 @@ module _ (exact : SegmentOrderTellsApart) (symmetric : ConflictIsSymmetric) wher
   kept_are rings distinct are found is =
       filter_alike (λ (ring : CoastRing). not (list_any found (segments_round ring.path))) (λ ring. not (is_left_out (all_segments rings) ring)) rings (λ ring c. ap not (ring_test rings distinct are found is ring c))
 
-none_from : (o : Option Kind) → is_some o ≡ false → o ≡ None
+pub none_from : (o : Option Kind) → is_some o ≡ false → o ≡ None
 none_from None e = refl
 none_from (Some k) e = absurd (false≢true (sym e))
 
@@ -192,12 +224,12 @@ pub sorted_are : SegmentOrderTellsApart → ConflictIsSymmetric → (rings : Lis
     → segs ≡ all_segments rings → lent ≡ segs → AreConflicts lent pairs → lent_pairs ≡ pairs → ((s : Seg) → found s ≡ list_any (is_in_pair s) lent_pairs)
     → kept ≡ filter (λ (ring : CoastRing). not (list_any found (segments_round ring.path))) rings → left ≡ filter (λ (ring : CoastRing). list_any found (segments_round ring.path)) rings → told ≡ pairs → cuts ≡ []
     → IsSorted rings (record { kept = kept; left_out = left; pairs = told; cuts = cuts })
-sorted_are exact symmetric rings segs lent pairs lent_pairs told found kept left cuts all borrowed are same is kept_is left_is told_is uncut =
+sorted_are exact symmetric rings segs lent pairs lent_pairs told found kept left cuts all borrowed are same is kept_is left_is told_is none =
     let of_rings : AreConflicts (all_segments rings) pairs = subst (λ (ss : List Seg). AreConflicts ss pairs) (borrowed ∙ all) are in
     let looked : (s : Seg) → found s ≡ list_any (is_in_pair s) (conflicts_of of_rings.distinct) = λ s. is s ∙ ap (list_any (is_in_pair s)) (same ∙ of_rings.are) in
     record {
       left_out = left_is ∙ left_out_are exact symmetric rings of_rings.distinct of_rings.once found looked;
       kept = kept_is ∙ kept_are exact symmetric rings of_rings.distinct of_rings.once found looked;
       pairs = subst (AreConflicts (all_segments rings)) (sym told_is) of_rings;
-      uncut = uncut;
+      uncut = none;
     }

@@ -2,12 +2,13 @@
 use Rattle.std.proofs.Common.{◌≡◌, ℕ, ◌+◌, ◌<◌, ◌||◌, Bool, true, false, cond, if◌then◌else◌, not, List, [], ◌∷◌, ◌++◌, filter, length, map, Option, Some, None, take, get_or, refl, sym, ap, ◌∙◌}
 use Rattle.std.specs.List.{cons_option, filter_map, list_any}
 use Rattle.std.specs.Option.{option_to_list}
-use Rattle.std.proofs.lemmas.List.{map-append}
+use Rattle.std.proofs.lemmas.List.{map-append, take_more}
 use Rattle.std.proofs.lemmas.List.Elements.{filter_map-append, filter_more}
 use Rattle.std.proofs.lemmas.List.Folds.{list_any_more}
-use Rattle.lists.proofs.ListsKit.{taken_more}
+pub use Rattle.lists.proofs.ListsKit.{taken_more}
+pub use Rattle.osm_segments.proofs.CountLemmas.{IfOk-both}
 
-or_false : (b : Bool) → (b || false) ≡ b
+pub or_false : (b : Bool) → (b || false) ≡ b
 or_false true = refl
 or_false false = refl
 
@@ -27,6 +28,11 @@ module _ {X : Type 0} where
   pub any_step : (p : X → Bool) (xs : List X) (i : ℕ) (x : X) (old new : Bool) → i < length xs → x ≡ get_or xs i x → old ≡ list_any p (take i xs) → new ≡ (old || p x) → new ≡ list_any p (take (i + 1) xs)
   any_step p xs i x old new h is inv after =
       after ∙ (ap (λ b. b || p x) inv ∙ (ap (λ y. list_any p (take i xs) || p y) is ∙ sym (list_any_more p xs i x h)))
+
+  -- what was found elsewhere or among the first items, and one more
+  pub or_any_step : (p : X → Bool) (xs : List X) (i : ℕ) (x : X) (first old new : Bool) → i < length xs → x ≡ get_or xs i x → old ≡ (first || list_any p (take i xs)) → new ≡ (old || p x) → new ≡ (first || list_any p (take (i + 1) xs))
+  or_any_step p xs i x true old new h is inv after = after ∙ ap (λ b. b || p x) inv
+  or_any_step p xs i x false old new h is inv after = any_step p xs i x old new h is inv after
 
   -- what passes is put at the end
   pub kept_step : (p : X → Bool) (xs : List X) (i : ℕ) (x : X) (b : Bool) (old new : List X) → i < length xs → x ≡ get_or xs i x → b ≡ p x → old ≡ filter p (take i xs) → new ≡ old ++ (if b then x ∷ [] else []) → new ≡ filter p (take (i + 1) xs)
@@ -59,4 +65,4 @@ module _ {X Y : Type 0} where
   -- what it gives, if anything, is put at the end
   pub given_step : (f : X → Option Y) (xs : List X) (i : ℕ) (x : X) (old new : List Y) → i < length xs → x ≡ get_or xs i x → old ≡ filter_map f (take i xs) → new ≡ old ++ option_to_list (f x) → new ≡ filter_map f (take (i + 1) xs)
   given_step f xs i x old new h is inv after =
-      after ∙ (ap (λ ys. ys ++ option_to_list (f x)) inv ∙ (ap (λ (ys : List Y). filter_map f (take i xs) ++ ys) (one_given (f x)) ∙ (sym (filter_map-append f (take i xs) (x ∷ [])) ∙ ap (filter_map f) (sym (taken_more xs i x h is)))))
+      after ∙ (ap (λ ys. ys ++ option_to_list (f x)) inv ∙ (ap (λ (ys : List Y). filter_map f (take i xs) ++ ys) (one_given (f x)) ∙ (sym (filter_map-append f (take i xs) (x ∷ [])) ∙ ap (filter_map f) (sym (take_more xs i x h ∙ ap (λ (y : X). take i xs ++ y ∷ []) (sym is))))))

@@ -31,7 +31,7 @@ turned_new r a i e =
     let long = length_push r a in
     slice_get_read (r ++ a ∷ []) (length (r ++ a ∷ [])) i a refl (omega arith) (sym (ap (λ n. get_or (r ++ a ∷ []) n a) e ∙ get_or-append_seam r a [] a))
 
-zip_short : (xs ys : List Loc) → length (zip xs ys) ≤ length xs
+pub zip_short : (xs ys : List Loc) → length (zip xs ys) ≤ length xs
 zip_short [] ys = omega arith
 zip_short (x ∷ xs) [] = omega arith
 zip_short (x ∷ xs) (y ∷ ys) = let r = zip_short xs ys in omega arith
@@ -45,7 +45,7 @@ test_yes i n h = grind (arith, nat_tests)
 test_no : (i n : ℕ) → n ≤ i → nat_lt i n ≡ false
 test_no i n h = grind (arith, nat_tests)
 
-steps_at : (path : List Loc) (i : ℕ) (p q : Loc) → slice_get path i ≡ Some p → slice_get path (after_round i (length path)) ≡ Some q → slice_get (steps_round path) i ≡ Some (p, q)
+pub steps_at : (path : List Loc) (i : ℕ) (p q : Loc) → slice_get path i ≡ Some p → slice_get path (after_round i (length path)) ≡ Some q → slice_get (steps_round path) i ≡ Some (p, q)
 steps_at [] i p q e d = absurd (cc)
 steps_at (a ∷ r) i p q e d = zip_get (a ∷ r) (r ++ a ∷ []) i p q e next
   where

@@ -1,10 +1,10 @@
 -- Tests that some member of a list passes.
-use Rattle.std.proofs.Common.{◌≡◌, ⊎_elim, ◌||◌, Bool, true, false, cond, List, [], ◌∷◌, filter, Option, Some, None, Contains, refl, sym, ap, ◌∙◌, arith}
+use Rattle.std.proofs.Common.{◌≡◌, ⊎_elim, suc, ◌||◌, Bool, true, false, cond, List, [], ◌∷◌, ◌++◌, filter, map, Option, Some, None, AllPairs, Contains, refl, sym, ap, subst, ◌∙◌, arith}
 use Rattle.std.specs.List.{cons_option, filter_map, flat_map, list_any}
 use Rattle.std.proofs.lemmas.Bool.{false≢true}
-use Rattle.std.proofs.lemmas.List.Elements.{Contains-append_cases, Contains-append_left, Contains-append_right}
+use Rattle.std.proofs.lemmas.List.Elements.{All-contains, Contains-append_cases, Contains-append_left, Contains-append_right}
 use Rattle.std.proofs.lemmas.List.Folds.{list_any_at}
-use Rattle.lists.proofs.ListsKit.{first_member, later_member, member_cases, no_member}
+pub use Rattle.lists.proofs.ListsKit.{first_member, later_member, member_cases, no_member}
 
 -- two truths that follow from each other are one
 pub same_truth : (a b : Bool) → (a ≡ true → b ≡ true) → (b ≡ true → a ≡ true) → a ≡ b
@@ -56,7 +56,56 @@ module _ {X : Type 0} where
           (member_cases x y (filter p xs) c)
       by false h c later = let r = later c in (later_member x y xs r.0, r.1)
 
+  -- what passes is kept
+  pub filter_has : (p : X → Bool) (xs : List X) (y : X) → Contains xs y → p y ≡ true → Contains (filter p xs) y
+  filter_has p [] y c e = absurd (no_member y c)
+  filter_has p (x ∷ xs) y c e =
+      ⊎_elim
+      (λ (q : x ≡ y). subst (λ b. Contains (cond b (x ∷ filter p xs) (filter p xs)) y) (sym (ap p q ∙ e)) (subst (Contains (x ∷ filter p xs)) q (first_member x (filter p xs))))
+      (λ (c : Contains xs y). later (p x) (filter_has p xs y c e))
+      (member_cases x y xs c)
+    where
+      later : (b : Bool) → Contains (filter p xs) y → Contains (cond b (x ∷ filter p xs) (filter p xs)) y
+      later true c = later_member x y (filter p xs) c
+      later false c = c
+
+  -- ---- an item with items before and behind it, where R holds of each two
+
+  pub pairs_after : (R : X → X → Type 0) (xs : List X) (y : X) (zs : List X) → AllPairs R (xs ++ y ∷ zs) → (z : X) → Contains zs z → R y z
+  pairs_after R [] y zs pairs z c = All-contains (R y) zs z (λ k d h. pairs 0 (suc k) d (omega arith) (omega arith)) c
+  pairs_after R (x ∷ xs) y zs pairs z c = pairs_after R xs y zs (λ i j d h l. pairs (suc i) (suc j) d (omega arith) (omega arith)) z c
+
+  pub pairs_before : (R : X → X → Type 0) (xs : List X) (y : X) (zs : List X) → AllPairs R (xs ++ y ∷ zs) → (x : X) → Contains xs x → R x y
+  pairs_before R [] y zs pairs x c = absurd (no_member x c)
+  pairs_before R (w ∷ ws) y zs pairs x c =
+      ⊎_elim
+      (λ (e : w ≡ x). subst (λ u. R u y) e (All-contains (R w) (ws ++ y ∷ zs) y (λ k d h. pairs 0 (suc k) d (omega arith) (omega arith)) (Contains-append_right ws (y ∷ zs) y (first_member y zs))))
+      (λ (c : Contains ws x). pairs_before R ws y zs (λ i j d h l. pairs (suc i) (suc j) d (omega arith) (omega arith)) x c)
+      (member_cases w x ws c)
+
 module _ {X Y : Type 0} where
+  -- an item of xs of which f makes y
+  pub record Makes (f : X → Y) (xs : List X) (y : Y) : Type 0 where
+    pub item : X
+    pub member : Contains xs item
+    pub makes : f item ≡ y
+
+  pub map_from : (f : X → Y) (xs : List X) (y : Y) → Contains (map f xs) y → Makes f xs y
+  map_from f [] y c = absurd (no_member y c)
+  map_from f (x ∷ xs) y c =
+      ⊎_elim
+      (λ (e : f x ≡ y). record { item = x; member = first_member x xs; makes = e })
+      (λ (c : Contains (map f xs) y). let r = map_from f xs y c in record { item = r.item; member = later_member x r.item xs r.member; makes = r.makes })
+      (member_cases (f x) y (map f xs) c)
+
+  pub map_has : (f : X → Y) (xs : List X) (x : X) → Contains xs x → Contains (map f xs) (f x)
+  map_has f [] x c = absurd (no_member x c)
+  map_has f (z ∷ zs) x c =
+      ⊎_elim
+      (λ (e : z ≡ x). subst (Contains (map f (z ∷ zs))) (ap f e) (first_member (f z) (map f zs)))
+      (λ (c : Contains zs x). later_member (f z) (f x) (map f zs) (map_has f zs x c))
+      (member_cases z x zs c)
+
   -- an item of xs that gives y
   pub record Gives (h : X → Option Y) (xs : List X) (y : Y) : Type 0 where
     pub item : X

@@ -25,5 +25,5 @@ KeepsUnbeaten rings is_kept = (ring : CoastRing) → Contains rings ring → is_
 pub record AreChosen (rings kept left_out : List CoastRing) : Type 0 where
   pub is_kept : CoastRing → Bool
   pub exact : KeepsUnbeaten rings is_kept
-  pub kept_are : kept ≡ filter is_kept rings
-  pub left_out_are : left_out ≡ filter (λ ring. not (is_kept ring)) rings
+  pub keeps : kept ≡ filter is_kept rings
+  pub leaves : left_out ≡ filter (λ ring. not (is_kept ring)) rings

@@ -12,3 +12,6 @@ pub mod Shortcuts
 pub mod Rounds
 pub mod Choice
 pub mod CutSorting
+pub mod ChoiceSteps
+pub mod ShortcutSteps
+pub mod CutSteps

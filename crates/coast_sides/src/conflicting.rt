@@ -45,6 +45,13 @@ pub(crate) fn segments_of(alloc: Global, pairs: &[Pair]) -> Result<BTreeSet<Seg>
     Ok(segs)
 }
 
+/// Whether some of these segments is in the set.
+pub(crate) fn any_among(segs: &BTreeSet<Seg>, some: &[Seg]) -> bool
+    ensures { result ≡ list_any (contains seg_cmp segs.now) some.now }
+{
+    some.iter().any(|seg| segs.contains(seg))
+}
+
 /// Whether some segment of a ring is among these.
 pub(crate) fn runs_along(
     alloc: Global,
@@ -55,5 +62,5 @@ pub(crate) fn runs_along(
         ≡ list_any (contains seg_cmp segs.now) (segments_round ring.now.path)) }
 {
     let round = segments_round(alloc, ring.path.as_slice())?;
-    Ok(round.iter().any(|seg| segs.contains(seg)))
+    Ok(any_among(segs, &round))
 }

@@ -1,25 +1,32 @@
 //! Coastline rings sorted out, and land and water.
 #![tactic(auto)]
 
+mod choosing;
 mod conflicting;
 mod cut;
 mod cutting;
 mod cutting_laws;
 mod existence;
+mod foes;
 mod land_parts;
 mod landing;
 mod oneness;
+mod ranking;
 mod ring_segments;
+mod rounds;
+mod shortcuts;
 mod side_nodes;
 mod sorted;
 mod sorting;
+mod steps_along;
+mod stretches;
 mod water_laws;
 mod watering;
 mod wrong_ways;
 
 pub use cut::{Cut, Cuts};
 pub use cutting::cut_and_sort_out;
-pub use cutting_laws::clear_rings_stay;
+pub use cutting_laws::{clear_rings_stay, rounds_end, unopposed_rings_stay};
 pub use existence::{land_exists, sorting_exists, water_exists};
 pub use land_parts::{Land, Repeats};
 pub use landing::land;

@@ -5,9 +5,8 @@ use osm_geom::orders_are_exact;
 use osm_segments::repeats_are_one;
 use osm_sides::directions_are_one;
 
-/// Rings are sorted out in one way.
+/// Rings are sorted out in one way, with their crossings cut and without.
 pub fn sorting_is_one()
-    requires { SortedIsOne }
     ensures { SortedIsOne }
 {
     orders_are_exact();

@@ -18,7 +18,7 @@ use std::alloc::{AllocError as OutOfMemory, Global};
 use std::collections::BTreeSet;
 
 /// A copy of a ring.
-fn copy_of(alloc: Global, ring: &CoastRing) -> Result<CoastRing, OutOfMemory>
+pub(crate) fn copy_of(alloc: Global, ring: &CoastRing) -> Result<CoastRing, OutOfMemory>
     ensures { IfOk result (λ copy. copy ≡ ring.now) }
 {
     let path = Path::from_vec(Vec::from_slice(alloc, ring.path.as_slice())?);
@@ -29,7 +29,7 @@ fn copy_of(alloc: Global, ring: &CoastRing) -> Result<CoastRing, OutOfMemory>
 }
 
 /// Puts a ring at the end of one of two lists.
-fn put(
+pub(crate) fn put(
     free: &mut CoastRings,
     along: &mut CoastRings,
     ring: CoastRing,

@@ -3,7 +3,7 @@ use Rattle.std.proofs.Common.{List, filter, min, ap, ◌∙◌}
 use Rattle.osm_lattice.specs.declared.loc.Loc.{Loc}
 use Rattle.osm_lattice.specs.Loc.{loc_cmp}
 use Rattle.lists.specs.Rising.{count_of}
-use Rattle.osm_segments.proofs.CountLemmas.{IfOk-both}
+use Rattle.coast_sides.proofs.ListSteps.{IfOk-both}
 use Rattle.osm_segments.specs.Counts.{ends_of}
 use Rattle.coast_sides.specs.WorldSides.{greater_corner, lesser_corner, on_side}
 use Rattle.coast_sides.proofs.SideNodes.{gathered, greatest_on, is_side, least_on}
