@@ -9,4 +9,4 @@ mod tally;
 pub use laws::{counted_lists_exist, counts_determine};
 pub use list::List;
 pub use odd::{odd_items, odd_items_of};
-pub use tally::{Tally, distinct_items, repeated_items};
+pub use tally::{Tally, distinct_items, distinct_items_of, repeated_items};
