@@ -97,7 +97,7 @@ fn foes_among(alloc: Global, rings: &[CoastRing]) -> Result<Foes, OutOfMemory>
     orders_are_exact();
     conflicts_are_symmetric();
     let segs = all_segments(alloc, rings)?;
-    let pairs = distinct_conflicts(alloc, &segs)?;
+    let pairs = distinct_conflicts(alloc, segs)?;
     foes_of(alloc, &pairs)
 }
 

@@ -11,15 +11,15 @@ ghost use Rattle.coast_sides.specs.Sorting.{AreConflicts, is_in_pair};
 use crate::ring_segments::segments_round;
 use coast_join::CoastRing;
 use osm_geom::Seg;
-use osm_segments::{Pair, conflicts, distinct};
+use osm_segments::{Pair, conflicts, distinct_of};
 use std::alloc::{AllocError as OutOfMemory, Global};
 use std::collections::BTreeSet;
 
 /// The conflicts of segments, each of which is taken once.
-pub(crate) fn distinct_conflicts(alloc: Global, segs: &[Seg]) -> Result<Vec<Pair>, OutOfMemory>
-    ensures { IfOk result (λ v. AreConflicts segs.now v.items) }
+pub(crate) fn distinct_conflicts(alloc: Global, segs: Vec<Seg>) -> Result<Vec<Pair>, OutOfMemory>
+    ensures { IfOk result (λ v. AreConflicts segs.items v.items) }
 {
-    let once = distinct(alloc, segs)?;
+    let once = distinct_of(segs);
     conflicts(alloc, &once)
 }
 

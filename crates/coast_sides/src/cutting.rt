@@ -23,7 +23,7 @@ fn cut_at_conflicts(alloc: Global, rings: &[CoastRing]) -> Result<(Vec<Pair>, Cu
     ensures down { IfOk result (λ found. AreCutDown rings.now found.1.left found.1.cuts) }
 {
     let segs = all_segments(alloc, rings)?;
-    let pairs = distinct_conflicts(alloc, &segs)?;
+    let pairs = distinct_conflicts(alloc, segs)?;
     let crossed = segments_of(alloc, &pairs)?;
     let down = cut_down(alloc, rings, &crossed)?;
     Ok((pairs, down))

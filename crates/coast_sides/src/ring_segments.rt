@@ -52,9 +52,18 @@ fn add_round(segs: &mut Vec<Seg>, path: &[Loc]) -> Result<(), OutOfMemory>
 pub(crate) fn segments_round(alloc: Global, path: &[Loc]) -> Result<Vec<Seg>, OutOfMemory>
     ensures { IfOk result (λ v. v.items ≡ segments_round path.now) }
 {
-    let mut segs = Vec::new(alloc);
+    let mut segs = Vec::with_capacity(alloc, path.len())?;
     add_round(&mut segs, path)?;
     Ok(segs)
+}
+
+/// How many locations rings have.
+fn location_count(rings: &[CoastRing]) -> usize {
+    let mut count: usize = 0;
+    for ring in rings {
+        count = count.saturating_add(ring.path.as_slice().len());
+    }
+    count
 }
 
 /// The segments of rings, one ring after the other: from each location to the next, and from the last to
@@ -62,7 +71,7 @@ pub(crate) fn segments_round(alloc: Global, path: &[Loc]) -> Result<Vec<Seg>, Ou
 pub(crate) fn all_segments(alloc: Global, rings: &[CoastRing]) -> Result<Vec<Seg>, OutOfMemory>
     ensures { IfOk result (λ v. v.items ≡ all_segments rings.now) }
 {
-    let mut segs = Vec::new(alloc);
+    let mut segs = Vec::with_capacity(alloc, location_count(rings))?;
     for ring in rings {
         add_round(&mut segs, ring.path.as_slice())?;
     }

@@ -78,7 +78,7 @@ pub fn sort_out(alloc: Global, rings: &[CoastRing]) -> Result<Sorted, OutOfMemor
     orders_are_exact();
     conflicts_are_symmetric();
     let segs = all_segments(alloc, rings)?;
-    let pairs = distinct_conflicts(alloc, &segs)?;
+    let pairs = distinct_conflicts(alloc, segs)?;
     let conflicting = segments_of(alloc, &pairs)?;
     let (kept, left_out) = parted(alloc, rings, &conflicting)?;
     Ok(Sorted {

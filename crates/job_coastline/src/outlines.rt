@@ -19,7 +19,7 @@ use crate::coast::{Shore, shore_of};
 use coast_join::CoastInput;
 use coast_sides::water;
 use osm_geom::Edges;
-use osm_nest::{Polygon, Polygons, polygons};
+use osm_nest::{Polygon, Polygons, polygons_of};
 use osm_text::CoastLine;
 use osm_words::{CoastlineSettings, OutputPolygons};
 use std::alloc::{AllocError as OutOfMemory, Global};
@@ -99,14 +99,14 @@ fn edges_of_each(alloc: Global, polygons: Polygons) -> Result<Vec<Edges>, OutOfM
     Ok(lists)
 }
 
-/// The polygons of land, if they are asked for.
-fn land_polygons(alloc: Global, asked: bool, land: &Edges) -> Result<Polygons, OutOfMemory>
-    requires { IsSided land.now }
-    ensures land { IfOk result (λ polygons. AreLand asked land.now polygons) }
+/// The polygons of land, if they are asked for. The edges of land go.
+fn land_polygons(alloc: Global, asked: bool, land: Edges) -> Result<Polygons, OutOfMemory>
+    requires { IsSided land }
+    ensures land { IfOk result (λ polygons. AreLand asked land polygons) }
     ensures sided { IfOk result (λ polygons. AreSided polygons) }
 {
     if asked {
-        polygons(alloc, land.as_slice())
+        polygons_of(alloc, land)
     } else {
         Ok(Polygons::new(alloc))
     }
@@ -121,17 +121,17 @@ fn water_polygons(alloc: Global, asked: bool, land: &Edges) -> Result<Polygons, 
 {
     if asked {
         let edges = water(alloc, land)?;
-        polygons(alloc, edges.as_slice())
+        polygons_of(alloc, edges)
     } else {
         Ok(Polygons::new(alloc))
     }
 }
 
-/// The outlines of the polygons of land, if they are asked for.
-fn land_outlines(alloc: Global, asked: bool, land: &Edges) -> Result<Vec<Edges>, OutOfMemory>
-    requires { IsSided land.now }
+/// The outlines of the polygons of land, if they are asked for. The edges of land go.
+fn land_outlines(alloc: Global, asked: bool, land: Edges) -> Result<Vec<Edges>, OutOfMemory>
+    requires { IsSided land }
     ensures { IfOk result (λ lists. (polygons : List Polygon)
-        × AreLand asked land.now polygons × AreEdgesOf polygons lists.items) }
+        × AreLand asked land polygons × AreEdgesOf polygons lists.items) }
 {
     let polygons = land_polygons(alloc, asked, land)?;
     edges_of_each(alloc, polygons)
@@ -148,7 +148,8 @@ fn water_outlines(alloc: Global, asked: bool, land: &Edges) -> Result<Vec<Edges>
     edges_of_each(alloc, polygons)
 }
 
-/// The outlines of the polygons that are asked for, from what is left of the coast.
+/// The outlines of the polygons that are asked for, from what is left of the coast. Those of water come first, since they
+/// need the edges of land.
 fn outlines_in(
     alloc: Global,
     shore: Shore,
@@ -160,13 +161,10 @@ fn outlines_in(
         → IsShoreOf (coastline_seen settings.now) input shore
         → AreOutlinesOf (coastline_seen settings.now) input outlines) }
 {
-    let land = land_outlines(alloc, has_land(settings.polygons), &shore.land)?;
-    let water = water_outlines(alloc, has_water(settings.polygons), &shore.land)?;
-    Ok(Outlines {
-        land,
-        water,
-        lines: shore.lines,
-    })
+    let Shore { land, lines } = shore;
+    let water = water_outlines(alloc, has_water(settings.polygons), &land)?;
+    let land = land_outlines(alloc, has_land(settings.polygons), land)?;
+    Ok(Outlines { land, water, lines })
 }
 
 /// The outlines of the polygons that come of coastline ways and are asked for.

@@ -2,6 +2,7 @@ pub mod Bools
 mod CancelSteps
 pub mod Contained
 pub mod Counts
+mod Deduped
 pub mod EachOnce
 pub mod Insertions
 pub mod Integers

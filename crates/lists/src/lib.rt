@@ -11,4 +11,4 @@ pub use laws::{counted_lists_exist, counts_determine};
 pub use list::List;
 pub use odd::{odd_items, odd_items_of};
 pub use once::{each_once, is_among};
-pub use tally::{Tally, distinct_items, items_of, repeated_items};
+pub use tally::{Tally, distinct_items, distinct_items_of, items_of, repeated_items};

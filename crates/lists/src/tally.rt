@@ -78,6 +78,17 @@ pub fn distinct_items<T: Ord + Copy>(alloc: Global, items: &[T]) -> Result<Vec<T
     items_of(alloc, &tallies)
 }
 
+/// What `distinct_items` gives of a list that isn't needed any more: it is sorted, and repeated items leave it, where it stands.
+pub fn distinct_items_of<T: Ord + Copy>(mut items: Vec<T>) -> Vec<T>
+    ensures once { (x : T) → count_of T.cmp x result.items
+        ≡ min 1 (count_of T.cmp x items.items) }
+    ensures rising { IsRising T.cmp result.items }
+{
+    items.sort_unstable();
+    items.dedup();
+    items
+}
+
 /// The items that stand at least twice in a list, each once and with its number, in strict order.
 pub fn repeated_items<T: Ord + Copy>(
     alloc: Global,

@@ -1,12 +1,12 @@
 -- Pairs of segments that were tried or are clear within a strip: rows, halves of a strip, and what is left to settle.
-use Rattle.std.proofs.Common.{AllPairs, Contains, IsPermutation, List, None, [], ap, arith, get_or, inl, inr, length, length-append, refl, subst, sym, take, ⊎_elim, ℕ, ◌++◌, ◌+◌, ◌-◌, ◌<◌, ◌<ℤ◌, ◌≤ℤ◌, ◌∙◌, ◌∷◌, ◌≡◌, ◌≢◌, ◌≤◌, ◌⊎◌}
+use Rattle.std.proofs.Common.{AllPairs, Bool, Contains, cond, false, filter, true, IsPermutation, List, None, [], ap, arith, get_or, inl, inr, length, length-append, refl, subst, sym, take, ⊎_elim, ℕ, ◌++◌, ◌+◌, ◌-◌, ◌<◌, ◌<ℤ◌, ◌≤ℤ◌, ◌∙◌, ◌∷◌, ◌≡◌, ◌≢◌, ◌≤◌, ◌⊎◌}
 use borrow.Author.Differences.{ints}
 use Rattle.std.proofs.lemmas.Bool.{cases_eq, cases_lt}
 use Rattle.std.proofs.Math.ListN.{get_or-append}
 use Rattle.std.proofs.Math.Seq.{get_or-append_seam}
 use Rattle.std.proofs.lemmas.List.{take_all}
 use Rattle.std.proofs.lemmas.List.Elements.{Contains-append_cases, Contains-append_left, Contains-append_right}
-use Rattle.lists.proofs.ListsKit.{first_member, member_cases, no_member, same_get, taken_more}
+use Rattle.lists.proofs.ListsKit.{first_member, later_member, member_cases, no_member, same_get, taken_more}
 use Rattle.osm_lattice.specs.declared.loc.Loc.{Loc}
 use Rattle.osm_lattice.specs.declared.seg.Seg.{Seg}
 use Rattle.osm_segments.specs.declared.places.Places.{Places}
@@ -38,6 +38,30 @@ pub settled_still : (segs : List Seg) (old new : List Places) (strip : Strip) (s
 settled_still segs old new strip s t kept (inl e) = inl e
 settled_still segs old new strip s t kept (inr (inl tried)) = inr (inl (tried_still segs old new s.place t.place kept tried))
 settled_still segs old new strip s t kept (inr (inr clear)) = inr (inr clear)
+
+-- ---- what passes a test stays
+kept_here : {X : Type 0} (b : Bool) (x y : X) (zs : List X) → b ≡ true → y ≡ x → Contains (cond b (y ∷ zs) zs) x
+kept_here true x y zs passes e = subst (Contains (y ∷ zs)) e (first_member y zs)
+kept_here false x y zs passes e = absurd (cc passes)
+
+kept_later : {X : Type 0} (b : Bool) (x y : X) (zs : List X) → Contains zs x → Contains (cond b (y ∷ zs) zs) x
+kept_later true x y zs c = later_member y x zs c
+kept_later false x y zs c = c
+
+kept : {X : Type 0} (p : X → Bool) (xs : List X) (x : X) → p x ≡ true → Contains xs x → Contains (filter p xs) x
+kept p [] x passes c = absurd (no_member x c)
+kept p (y ∷ ys) x passes c =
+    ⊎_elim
+    (λ (e : y ≡ x). kept_here (p y) x y (filter p ys) (ap p e ∙ passes) e)
+    (λ (d : Contains ys x). kept_later (p y) x y (filter p ys) (kept p ys x passes d))
+    (member_cases y x ys c)
+
+pub kept_or : {X : Type 0} (p : X → Bool) (xs : List X) (x : X) → Contains xs x → Contains (filter p xs) x ⊎ (p x ≡ false)
+kept_or p xs x c = by (p x) refl
+  where
+    by : (b : Bool) → p x ≡ b → Contains (filter p xs) x ⊎ (p x ≡ false)
+    by true passes = inl (kept p xs x passes c)
+    by false fails = inr fails
 
 -- ---- the other way round
 turned_clear : (strip : Strip) (s t : Seg) → RunClear strip s t → RunClear strip t s

@@ -4,7 +4,7 @@ ghost use Rattle.std.specs.Prelude.{◌≡◌, ◌++◌, IfOk, OnOk, length, map
 ghost use Rattle.osm_segments.specs.Counts.{AreSurvivors, AreDistinct, AreOddNodes};
 ghost use Rattle.osm_segments.specs.Repeats.{AreRepeats, StandOnce, repeat_of};
 
-use lists::{Tally, distinct_items, odd_items, odd_items_of, repeated_items};
+use lists::{Tally, distinct_items, distinct_items_of, odd_items, odd_items_of, repeated_items};
 use osm_lattice::{Loc, Seg};
 use std::alloc::{AllocError as OutOfMemory, Global};
 
@@ -36,6 +36,13 @@ pub fn distinct(alloc: Global, segs: &[Seg]) -> Result<Vec<Seg>, OutOfMemory>
     ensures { IfOk result (λ v. AreDistinct segs.now v.items) }
 {
     distinct_items(alloc, segs)
+}
+
+/// What `distinct` gives of a list that isn't needed any more, where it stands.
+pub fn distinct_of(segs: Vec<Seg>) -> Vec<Seg>
+    ensures { AreDistinct segs.items result.items }
+{
+    distinct_items_of(segs)
 }
 
 fn repeats_of(alloc: Global, tallies: &[Tally<Seg>]) -> Result<Vec<Repeat>, OutOfMemory>

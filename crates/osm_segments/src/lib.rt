@@ -14,7 +14,9 @@ mod places;
 mod ranges;
 mod sweep;
 
-pub use counts::{Cancelled, Repeat, cancel, distinct, odd_nodes, repeated, survivors};
+pub use counts::{
+    Cancelled, Repeat, cancel, distinct, distinct_of, odd_nodes, repeated, survivors,
+};
 pub use laws::{conflicts_have_their_kind, repeats_are_one, repeats_exist};
 pub use outline::{Outline, outline_of};
 pub use pairs::{Pair, conflict_places, conflicts, pair_at};

@@ -1,17 +1,16 @@
 //! The conflicting pairs among segments.
 
-ghost use Rattle.std.specs.Prelude.{◌≡◌, IfOk, IsPermutation};
+ghost use Rattle.std.specs.Prelude.{◌≡◌, IfOk};
 ghost use Rattle.std.specs.List.{filter_map};
 ghost use Rattle.osm_lattice.specs.Seg.{seg_cmp};
 ghost use Rattle.lists.specs.Rising.{IsRising};
 ghost use Rattle.osm_segments.specs.Pairs.{conflicts_of, pair_cmp};
 ghost use Rattle.osm_segments.specs.Places.{AreConflictPlaces, pair_at};
-ghost use Rattle.osm_segments.specs.Sweep.{EndsRise};
 
 use crate::few::pairs::{FEW, conflicts_of_few, pair_of};
 use crate::places::Places;
 use crate::ranges::division;
-use crate::sweep::clear::{by_ends, is_clear};
+use crate::sweep::clear::is_clear_by_ends;
 use osm_lattice::{Kind, Seg};
 use std::alloc::{AllocError as OutOfMemory, Global};
 
@@ -51,31 +50,9 @@ fn pairs_at(alloc: Global, segs: &[Seg], places: &[Places]) -> Result<Vec<Pair>,
     Ok(pairs)
 }
 
-/// The conflicts among segments in strict order, which are also given in the order of their upper ends.
-///
-/// One sweep finds most long lists free of conflicts.
-///
-/// Ways: segments that one sweep finds free of conflicts (sweep); all others by strips (ranges).
-pub(crate) fn conflicts_along(
-    alloc: Global,
-    segs: &[Seg],
-    ends: &[Seg],
-) -> Result<Vec<Pair>, OutOfMemory>
-    requires rising { IsRising seg_cmp segs.now }
-    requires moved { IsPermutation segs.now ends.now }
-    requires rise { EndsRise ends.now }
-    ensures { IfOk result (λ v. v.items ≡ conflicts_of segs.now) }
-{
-    if is_clear(alloc, segs, ends)? {
-        return Ok(Vec::new(alloc));
-    }
-    let places = division::conflict_places(alloc, segs)?;
-    pairs_at(alloc, segs, &places)
-}
-
 /// The conflicts among segments in strict order.
 ///
-/// Ways: up to 32 segments by pairs (few); more that one sweep finds free of conflicts (sweep); all others by strips (ranges).
+/// Ways: up to 32 segments by pairs (few); all others by the places of the pairs.
 fn all_conflicts(alloc: Global, segs: &[Seg]) -> Result<Vec<Pair>, OutOfMemory>
     requires { IsRising seg_cmp segs.now }
     ensures { IfOk result (λ v. v.items ≡ conflicts_of segs.now) }
@@ -83,8 +60,8 @@ fn all_conflicts(alloc: Global, segs: &[Seg]) -> Result<Vec<Pair>, OutOfMemory>
     if segs.len() <= FEW {
         return conflicts_of_few(alloc, segs);
     }
-    let ends = by_ends(alloc, segs)?;
-    conflicts_along(alloc, segs, &ends)
+    let places = conflict_places(alloc, segs)?;
+    pairs_at(alloc, segs, &places)
 }
 
 /// All conflicting pairs among segments in strict order: by the first segment, then by the second.
@@ -96,32 +73,15 @@ pub fn conflicts(alloc: Global, segs: &[Seg]) -> Result<Vec<Pair>, OutOfMemory>
     all_conflicts(alloc, segs)
 }
 
-/// The places of the conflicts among segments in strict order, which are also given in the order of their upper ends.
+/// The places of all conflicting pairs among segments in strict order: by the first segment, then by the second. A pair takes 8 bytes.
 ///
 /// Ways: segments that one sweep finds free of conflicts (sweep); all others by strips (ranges).
-fn conflict_places_along(
-    alloc: Global,
-    segs: &[Seg],
-    ends: &[Seg],
-) -> Result<Vec<Places>, OutOfMemory>
-    requires rising { IsRising seg_cmp segs.now }
-    requires moved { IsPermutation segs.now ends.now }
-    requires rise { EndsRise ends.now }
-    ensures { IfOk result (λ v. AreConflictPlaces segs.now v.items) }
-{
-    if is_clear(alloc, segs, ends)? {
-        return Ok(Vec::new(alloc));
-    }
-    division::conflict_places(alloc, segs)
-}
-
-/// The places of all conflicting pairs among segments in strict order: by the first segment, then by the second.
-///
-/// A pair takes 8 bytes.
 pub fn conflict_places(alloc: Global, segs: &[Seg]) -> Result<Vec<Places>, OutOfMemory>
     requires { IsRising seg_cmp segs.now }
     ensures { IfOk result (λ v. AreConflictPlaces segs.now v.items) }
 {
-    let ends = by_ends(alloc, segs)?;
-    conflict_places_along(alloc, segs, &ends)
+    if is_clear_by_ends(alloc, segs)? {
+        return Ok(Vec::new(alloc));
+    }
+    division::conflict_places(alloc, segs)
 }

@@ -1,11 +1,13 @@
 //! Strips, halved until each segment runs through one or few are left.
 //!
-//! A segment that runs through a strip is put into a row there and goes no further. The others go to the halves that they
-//! reach. Two segments in conflict stay together until one of them runs through a strip in which they conflict.
-ghost use Rattle.std.specs.Prelude.{◌≡◌, ◌≢◌, ◌↔◌, ◌≤ℤ◌, [], Contains, IfOk, IsPermutation, OnOk, false, map, true};
+//! A segment that runs through a strip is put into a row there and goes no further; the others go to the halves that they reach. Two
+//! segments in conflict stay together until one of them runs through a strip in which they conflict.
+ghost use Rattle.std.specs.Prelude.{◌≡◌, ◌≢◌, ◌↔◌, ◌≤ℤ◌, [], Contains, IfOk, IsPermutation, List, OnOk, false, map, true};
 ghost use Rattle.osm_lattice.specs.declared.loc.Loc.{Loc};
+ghost use Rattle.osm_lattice.specs.declared.seg.Seg.{Seg};
 ghost use Rattle.osm_segments.specs.declared.places.Places.{Places};
 ghost use Rattle.osm_segments.specs.declared.ranges.strips.SegAt.{SegAt};
+ghost use Rattle.osm_segments.specs.declared.ranges.strips.Strip.{Strip};
 ghost use Rattle.osm_lattice.specs.Seg.{seg_cmp};
 ghost use Rattle.lists.specs.Rising.{IsRising};
 ghost use Rattle.osm_segments.specs.Pairs.{conflicts_of};
@@ -13,15 +15,13 @@ ghost use Rattle.osm_segments.specs.Places.{AreConflictPlaces};
 ghost use Rattle.osm_segments.specs.Sweep.{EndsRise};
 ghost use Rattle.osm_segments.specs.Ranges.{AreSettled, AreToldOrClear, HaveNoConflict, IsGrown, IsReduced, height, places_cmp};
 
-use crate::counts::distinct;
+use crate::counts::distinct_of;
 use crate::pairs::{Pair, pair_at};
 use crate::places::Places;
 use crate::ranges::rows::{ByRun, in_order_across, part_by_run};
-use crate::ranges::strips::{
-    SegAt, Strip, heights_of, reaching_above, reaching_below, with_places,
-};
+use crate::ranges::strips::{Halves, SegAt, Strip, halved, heights_of, with_places};
 use crate::ranges::telling::{settle_rows, try_each};
-use crate::sweep::clear::{by_ends, is_clear};
+use crate::sweep::clear::{is_clear, is_clear_by_ends};
 use lists::counts_determine;
 use osm_lattice::{Loc, Seg, conflicts_are_symmetric};
 use std::alloc::{AllocError as OutOfMemory, Global};
@@ -36,11 +36,11 @@ fn settle_through(
     limit: usize,
     segs: &[Seg],
     strip: Strip,
-    all: &[SegAt],
+    all: Vec<SegAt>,
 ) -> Result<Vec<SegAt>, OutOfMemory>
     ensures grown { IfOk result (λ others. IsGrown segs.now told.old.items told.new.items) }
     ensures reduced { IfOk result (λ others. IsReduced segs.now strip told.new.items others.items
-        all.now) }
+        all.items) }
 {
     let ByRun { through, others } = part_by_run(alloc, strip, all)?;
     let through = in_order_across(strip, through);
@@ -65,10 +65,20 @@ fn are_clear(alloc: Global, all: &[SegAt]) -> Result<bool, OutOfMemory>
         → Contains all.now t → HaveNoConflict s.seg t.seg) }
 {
     conflicts_are_symmetric();
-    let segs = segs_of(alloc, all)?;
-    let segs = distinct(alloc, &segs)?;
-    let ends = by_ends(alloc, &segs)?;
-    is_clear(alloc, &segs, &ends)
+    let segs = distinct_of(segs_of(alloc, all)?);
+    is_clear_by_ends(alloc, &segs)
+}
+
+/// Segments that are still to be settled: none, where one sweep finds them free of conflicts, and else all.
+fn unsettled(alloc: Global, all: Vec<SegAt>) -> Result<Vec<SegAt>, OutOfMemory>
+    ensures { IfOk result (λ v. (segs : List Seg) (told : List Places) (strip : Strip)
+        → AreSettled segs told strip v.items → AreSettled segs told strip all.items) }
+{
+    match are_clear(alloc, &all) {
+        Ok(true) => Ok(Vec::new(alloc)),
+        Ok(false) => Ok(all),
+        Err(OutOfMemory) => Err(OutOfMemory),
+    }
 }
 
 /// Settles the segments of a strip. The strip is halved at heights within it.
@@ -79,16 +89,13 @@ fn settle_strip(
     segs: &[Seg],
     strip: Strip,
     heights: &[Loc],
-    all: &[SegAt],
+    all: Vec<SegAt>,
 ) -> Result<(), OutOfMemory>
     ensures grown { OnOk result (IsGrown segs.now told.old.items told.new.items) }
-    ensures settled { OnOk result (AreSettled segs.now told.new.items strip all.now) }
+    ensures settled { OnOk result (AreSettled segs.now told.new.items strip all.items) }
 {
     if all.len() <= FEW {
-        return try_each(told, limit, segs, strip, all);
-    }
-    if are_clear(alloc, all)? {
-        return Ok(());
+        return try_each(told, limit, segs, strip, &all);
     }
     let others = settle_through(alloc, told, limit, segs, strip, all)?;
     if heights.is_empty() {
@@ -96,18 +103,19 @@ fn settle_strip(
     }
     let at = heights.len() / 2;
     let middle = heights[at];
-    let half = reaching_below(alloc, &others, middle)?;
+    let Halves { below, above } = halved(alloc, others, middle)?;
     let lower = Strip {
         low: strip.low,
         high: middle,
     };
-    settle_strip(alloc, told, limit, segs, lower, &heights[..at], &half)?;
-    let half = reaching_above(alloc, &others, middle)?;
+    let below = unsettled(alloc, below)?;
+    settle_strip(alloc, told, limit, segs, lower, &heights[..at], below)?;
     let upper = Strip {
         low: middle,
         high: strip.high,
     };
-    settle_strip(alloc, told, limit, segs, upper, &heights[at + 1..], &half)
+    let above = unsettled(alloc, above)?;
+    settle_strip(alloc, told, limit, segs, upper, &heights[at + 1..], above)
 }
 
 /// All of the plane.
@@ -148,9 +156,9 @@ fn settle_list(
     ensures grown { OnOk result (IsGrown segs.now told.old.items told.new.items) }
     ensures told { OnOk result (AreToldOrClear segs.now told.new.items) }
 {
-    let all = with_places(alloc, segs)?;
     let heights = heights_of(alloc, segs)?;
-    settle_strip(alloc, told, limit, segs, whole_plane(), &heights, &all)
+    let all = with_places(alloc, segs)?;
+    settle_strip(alloc, told, limit, segs, whole_plane(), &heights, all)
 }
 
 /// The places of all conflicting pairs among segments in strict order, in order.

@@ -54,13 +54,18 @@ pub fn row_of(alloc: Global, strip: Strip, all: &[SegAt]) -> Result<SideBySide, 
     Ok(SideBySide { row, rest })
 }
 
-/// The segments that run through a strip, and the others.
-pub fn part_by_run(alloc: Global, strip: Strip, all: &[SegAt]) -> Result<ByRun, OutOfMemory>
+/// How many of a list run through a strip. Only the room for them rests on it.
+fn count_through(strip: Strip, all: &[SegAt]) -> usize {
+    all.iter().filter(|s| runs_through(strip, s.seg)).count()
+}
+
+/// Segments that run through a strip, of which there are so many, and the others.
+fn part_each(alloc: Global, strip: Strip, all: &[SegAt], count: usize) -> Result<ByRun, OutOfMemory>
     ensures { IfOk result (λ p. (s : SegAt) → Contains all.now s
         → Contains p.through.items s ⊎ Contains p.others.items s) }
 {
-    let mut through = Vec::new(alloc);
-    let mut others = Vec::new(alloc);
+    let mut through = Vec::with_capacity(alloc, count)?;
+    let mut others = Vec::with_capacity(alloc, all.len().saturating_sub(count))?;
     for &s in all {
         if runs_through(strip, s.seg) {
             through.push(s)?;
@@ -69,6 +74,21 @@ pub fn part_by_run(alloc: Global, strip: Strip, all: &[SegAt]) -> Result<ByRun, 
         }
     }
     Ok(ByRun { through, others })
+}
+
+/// Segments that run through a strip, and the others. Where none do, the list is that of the others.
+pub fn part_by_run(alloc: Global, strip: Strip, all: Vec<SegAt>) -> Result<ByRun, OutOfMemory>
+    ensures { IfOk result (λ p. (s : SegAt) → Contains all.items s
+        → Contains p.through.items s ⊎ Contains p.others.items s) }
+{
+    let count = count_through(strip, &all);
+    if count == 0 {
+        return Ok(ByRun {
+            through: Vec::new(alloc),
+            others: all,
+        });
+    }
+    part_each(alloc, strip, &all, count)
 }
 
 /// The order of two segments at the lower height of a strip, and then at its upper one.

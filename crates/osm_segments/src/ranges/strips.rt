@@ -1,5 +1,7 @@
 //! Strips of the tilted plane between two heights, and the segments that run through them.
-ghost use Rattle.std.specs.Prelude.{◌≡◌, ◌⊎◌, ◌≤ℤ◌, ◌<◌, ℕ, Contains, IfOk, false, length, slice_index_or};
+ghost use Rattle.std.specs.Prelude.{◌≡◌, ◌⊎◌, ◌≤ℤ◌, ◌<◌, ℕ, Contains, IfOk, length, slice_index_or};
+ghost use Rattle.std.specs.Ordering.{is_lt};
+ghost use Rattle.osm_lattice.specs.Loc.{loc_cmp};
 ghost use Rattle.osm_segments.specs.Ranges.{height};
 
 use osm_lattice::{Loc, Seg};
@@ -50,7 +52,7 @@ pub fn runs_through(strip: Strip, s: Seg) -> bool {
 }
 
 fn is_lower(p: Loc, q: Loc) -> bool
-    ensures { result ≡ false → height q ≤ℤ height p }
+    ensures { result ≡ is_lt (loc_cmp p q) }
 {
     p < q
 }
@@ -74,12 +76,17 @@ pub fn with_places(alloc: Global, segs: &[Seg]) -> Result<Vec<SegAt>, OutOfMemor
     Ok(all)
 }
 
-/// The segments that reach below a height.
-pub fn reaching_below(alloc: Global, all: &[SegAt], middle: Loc) -> Result<Vec<SegAt>, OutOfMemory>
+/// How many reach below a height. Only the room for them rests on it.
+fn count_below(all: &[SegAt], middle: Loc) -> usize {
+    all.iter().filter(|s| is_lower(s.seg.a, middle)).count()
+}
+
+/// Those that reach below a height.
+fn reaching_below(alloc: Global, all: &[SegAt], middle: Loc) -> Result<Vec<SegAt>, OutOfMemory>
     ensures { IfOk result (λ v. (s : SegAt) → Contains all.now s
         → Contains v.items s ⊎ (height middle ≤ℤ height s.seg.a)) }
 {
-    let mut below = Vec::new(alloc);
+    let mut below = Vec::with_capacity(alloc, count_below(all, middle))?;
     for &s in all {
         if is_lower(s.seg.a, middle) {
             below.push(s)?;
@@ -88,18 +95,33 @@ pub fn reaching_below(alloc: Global, all: &[SegAt], middle: Loc) -> Result<Vec<S
     Ok(below)
 }
 
-/// The segments that reach above a height.
-pub fn reaching_above(alloc: Global, all: &[SegAt], middle: Loc) -> Result<Vec<SegAt>, OutOfMemory>
-    ensures { IfOk result (λ v. (s : SegAt) → Contains all.now s
-        → Contains v.items s ⊎ (height s.seg.b ≤ℤ height middle)) }
+/// Those that reach above a height. The others leave the list.
+fn reaching_above(mut all: Vec<SegAt>, middle: Loc) -> Vec<SegAt>
+    ensures { (s : SegAt) → Contains all.items s
+        → Contains result.items s ⊎ (height s.seg.b ≤ℤ height middle) }
 {
-    let mut above = Vec::new(alloc);
-    for &s in all {
-        if is_lower(middle, s.seg.b) {
-            above.push(s)?;
-        }
-    }
-    Ok(above)
+    all.retain(|s| is_lower(middle, s.seg.b));
+    all.shrink_to_fit();
+    all
+}
+
+/// Segments that reach below a height, and those that reach above it.
+#[derive(Drop)]
+pub struct Halves {
+    pub below: Vec<SegAt>,
+    pub above: Vec<SegAt>,
+}
+
+/// The segments of a list that reach below a height, and those that reach above it.
+pub fn halved(alloc: Global, all: Vec<SegAt>, middle: Loc) -> Result<Halves, OutOfMemory>
+    ensures below { IfOk result (λ h. (s : SegAt) → Contains all.items s
+        → Contains h.below.items s ⊎ (height middle ≤ℤ height s.seg.a)) }
+    ensures above { IfOk result (λ h. (s : SegAt) → Contains all.items s
+        → Contains h.above.items s ⊎ (height s.seg.b ≤ℤ height middle)) }
+{
+    let below = reaching_below(alloc, &all, middle)?;
+    let above = reaching_above(all, middle);
+    Ok(Halves { below, above })
 }
 
 /// The heights at which segments begin or end, each once and in order.
@@ -113,5 +135,6 @@ pub fn heights_of(alloc: Global, segs: &[Seg]) -> Result<Vec<Loc>, OutOfMemory> 
     }
     heights.sort_unstable();
     heights.dedup();
+    heights.shrink_to_fit();
     Ok(heights)
 }

@@ -226,3 +226,12 @@ pub fn is_clear(alloc: Global, segs: &[Seg], ends: &[Seg]) -> Result<bool, OutOf
     }
     Ok(status.is_empty())
 }
+
+/// The same of segments that aren't given in the order of their upper ends. Their list in that order goes once the sweep has ended.
+pub fn is_clear_by_ends(alloc: Global, segs: &[Seg]) -> Result<bool, OutOfMemory>
+    requires { IsRising seg_cmp segs.now }
+    ensures { IfOk result (λ clear. clear ≡ true → conflicts_of segs.now ≡ []) }
+{
+    let ends = by_ends(alloc, segs)?;
+    is_clear(alloc, segs, &ends)
+}

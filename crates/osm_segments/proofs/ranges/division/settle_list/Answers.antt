@@ -1,4 +1,3 @@
-use Rattle.std.proofs.Common.{subst}
 use Rattle.std.proofs.lemmas.Result.{on_ok_weaker}
 use Rattle.osm_segments.specs.Ranges.{AreSettled}
 use Rattle.osm_segments.proofs.TriedPairs.{told_or_clear}
@@ -8,6 +7,6 @@ pub returns-clause-told : goal.returns-clause-told
 returns-clause-told c =
     let segs = c.args.segs.now in let plane = c.whole_plane.result in let new = c.settle_strip.new.told.items in
     on_ok_weaker c.settle_strip.result
-    (λ (settled : AreSettled segs new plane c.deref-2.result.now).
-    told_or_clear segs new plane c.in_ok-all.all.items c.whole_plane.ensures.low c.whole_plane.ensures.high c.in_ok-all.ensures.long c.in_ok-all.ensures.each (subst (AreSettled segs new plane) c.deref-2.ensures.value settled))
+    (λ (settled : AreSettled segs new plane c.in_ok-all.all.items).
+    told_or_clear segs new plane c.in_ok-all.all.items c.whole_plane.ensures.low c.whole_plane.ensures.high c.in_ok-all.ensures.long c.in_ok-all.ensures.each settled)
     c.settle_strip.ensures.settled

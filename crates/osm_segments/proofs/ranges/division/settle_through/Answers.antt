@@ -8,7 +8,7 @@ use Rattle.osm_segments.proofs.ranges.division.settle_through.Goals as goal
 
 pub returns-clause-reduced : goal.returns-clause-reduced
 returns-clause-reduced c =
-    let segs = c.args.segs.now in let strip = c.args.strip in let all = c.args.all.now in
+    let segs = c.args.segs.now in let strip = c.args.strip in let all = c.args.all.items in
     let new = c.settle_rows.new.told.items in let through = c.in_ok-through.field-0.through.items in let others = c.in_ok-through.field-0.others.items in let sorted = c.in_order_across-through.result.items in
     let others_is = c.in_ok-through.others-is in let value = c.deref.ensures.value in
     let others_now : c.deref.result.now ≡ others = cc in

@@ -1,29 +1,18 @@
-use Rattle.std.proofs.Common.{Contains, ap, inl, inr, subst, sym, ⊎_elim, ◌++◌, ◌∙◌, ◌≤ℤ◌, ◌∷◌, [], ◌≡◌}
-use Rattle.std.proofs.lemmas.List.Elements.{Contains-append_left}
+use Rattle.std.proofs.Common.{Bool, Contains, filter, inl, inr, rules, subst, sym, ⊎_elim, ◌∙◌}
+use Rattle.std.specs.Ordering.{is_lt}
+use Rattle.std.proofs.lemmas.Fn.{filter_same}
+use Rattle.osm_lattice.specs.Loc.{loc_cmp}
 use Rattle.osm_segments.specs.declared.ranges.strips.SegAt.{SegAt}
-use Rattle.osm_segments.specs.Ranges.{height}
-use Rattle.osm_segments.proofs.SettledPairs.{all_taken, last_in, one_more_in}
+use Rattle.osm_segments.proofs.SettledPairs.{kept_or}
+use Rattle.osm_segments.proofs.TriedPairs.{not_lower}
 use Rattle.osm_segments.proofs.ranges.strips.reaching_above.Goals as goal
-use Rattle.osm_segments.proofs.ranges.strips.reaching_above.Goals.{then-is_lower+in_ok-push, else-is_lower}
-
-pub loop-s-preserved : goal.loop-s-preserved
-loop-s-preserved c t k =
-    let all = c.args.all.now in let i = c.loop-s.s-index in let s = c.s-item.result in let old = c.loop-s.above.items in
-    let next = one_more_in all i s c.loop-s-test.true c.s-item.is t k in
-    elim c.if-is_lower.branch [
-      | then-is_lower+in_ok-push w ↦
-          let first : c.if-is_lower.above.items ≡ old ++ s ∷ [] = ap (λ v. v.items) w.above-is ∙ w.in_ok-push.ensures.items in
-          ⊎_elim
-          (λ m. ⊎_elim (λ (h : Contains old t). inl (subst (λ xs. Contains xs t) (sym first) (Contains-append_left old (s ∷ []) t h))) (λ h. inr h) (c.loop-s.invariant t m))
-          (λ (e : s ≡ t). inl (subst (λ xs. Contains xs t) (sym first) (subst (Contains (old ++ s ∷ [])) e (last_in old s))))
-          next
-      | else-is_lower w ↦
-          let first : c.if-is_lower.above.items ≡ old = ap (λ v. v.items) w.above-is in
-          ⊎_elim
-          (λ m. ⊎_elim (λ (h : Contains old t). inl (subst (λ xs. Contains xs t) (sym first) h)) (λ h. inr h) (c.loop-s.invariant t m))
-          (λ (e : s ≡ t). inr (subst (λ (x : SegAt). height x.seg.b ≤ℤ height c.args.middle) e (c.is_lower.ensures w.if-is_lower.false)))
-          next
-    ]
 
 pub returns : goal.returns
-returns c s k = c.loop-s.invariant s (all_taken c.args.all.now c.loop-s.s-index s c.loop-s-test.false k)
+returns c s k =
+    let all = c.args.all.items in
+    let reaches : SegAt → Bool = λ t. is_lt (loc_cmp c.args.middle t.seg.b) in
+    let kept = c.shrink_to_fit.ensures.items ∙ filter_same _ reaches _ (λ x b f' k. search rules) _ _ c.retain.ensures.filtered in
+    ⊎_elim
+    (λ (h : Contains (filter reaches all) s). inl (subst (λ xs. Contains xs s) (sym kept) h))
+    (λ low. inr (not_lower c.args.middle s.seg.b low))
+    (kept_or reaches all s k)

@@ -3,6 +3,7 @@ use Rattle.std.proofs.lemmas.List.Elements.{Contains-append_left}
 use Rattle.osm_segments.specs.declared.ranges.strips.SegAt.{SegAt}
 use Rattle.osm_segments.specs.Ranges.{height}
 use Rattle.osm_segments.proofs.SettledPairs.{all_taken, last_in, one_more_in}
+use Rattle.osm_segments.proofs.TriedPairs.{not_lower}
 use Rattle.osm_segments.proofs.ranges.strips.reaching_below.Goals as goal
 use Rattle.osm_segments.proofs.ranges.strips.reaching_below.Goals.{then-is_lower+in_ok-push, else-is_lower}
 
@@ -21,7 +22,7 @@ loop-s-preserved c t k =
           let first : c.if-is_lower.below.items ≡ old = ap (λ v. v.items) w.below-is in
           ⊎_elim
           (λ m. ⊎_elim (λ (h : Contains old t). inl (subst (λ xs. Contains xs t) (sym first) h)) (λ h. inr h) (c.loop-s.invariant t m))
-          (λ (e : s ≡ t). inr (subst (λ (x : SegAt). height c.args.middle ≤ℤ height x.seg.a) e (c.is_lower.ensures w.if-is_lower.false)))
+          (λ (e : s ≡ t). inr (subst (λ (x : SegAt). height c.args.middle ≤ℤ height x.seg.a) e (not_lower s.seg.a c.args.middle (sym c.is_lower.ensures ∙ w.if-is_lower.false))))
           next
     ]
 

@@ -4,7 +4,7 @@ use Rattle.std.proofs.lemmas.Result.{IfOk-weaker}
 use Rattle.osm_segments.specs.Pairs.{conflicts_of}
 use Rattle.osm_segments.specs.Places.{pair_at}
 use Rattle.osm_segments.proofs.ToldPlaces.{kept_items}
-use Rattle.osm_segments.proofs.pairs.conflicts_along.Goals as goal
+use Rattle.osm_segments.proofs.pairs.all_conflicts.Goals as goal
 
 pub returns : goal.returns
 returns c =

@@ -1,7 +1,0 @@
-use Rattle.std.proofs.Common.{Contains, take, ◌≤ℤ◌, ◌⊎◌}
-use Rattle.osm_segments.specs.declared.ranges.strips.SegAt.{SegAt}
-use Rattle.osm_segments.specs.Ranges.{height}
-use Rattle.osm_segments.proofs.ranges.strips.reaching_above.Given as goal
-
-abbrev pub invariant-loop-s : goal.invariant-loop-s
-invariant-loop-s l = (s : SegAt) → Contains (take l.s-index l.all) s → Contains l.above.items s ⊎ (height s.seg.b ≤ℤ height l.middle)
