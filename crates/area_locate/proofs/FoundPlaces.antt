@@ -1,5 +1,5 @@
 -- Places found one after another.
-use Rattle.std.proofs.Common.{Contains, List, [], ap, arith, false, get_or, inl, inr, length, refl, subst, sym, take, ℕ, ⊎_elim, ◌++◌, ◌+◌, ◌<◌, ◌∙◌, ◌∷◌, ◌≡◌, ◌≤◌, ◌⊎◌}
+use Rattle.std.proofs.Common.{Contains, List, [], ap, ap₂, arith, false, get_or, inl, inr, length, refl, subst, sym, take, ℕ, ℤ, ⊎_elim, ◌++◌, ◌+◌, ◌<◌, ◌∙◌, ◌∷◌, ◌≡◌, ◌≤◌, ◌⊎◌}
 use lib.Signed.{lt_z}
 use Rattle.std.proofs.lemmas.Bool.{cases_lt}
 use Rattle.std.proofs.lemmas.List.{take_more}
@@ -29,15 +29,15 @@ module _ (envelope : Envelope) (points : List Loc) where
   adds_fewer among few old new fewer a = record { kept = a.kept; within = a.within; whole = λ i h at. a.whole i (fewer i h at) at }
 
   -- those of one entry more
-  pub adds_entry : (entries : List Entry) (k : ℕ) (e : Entry) (old mid new : List ℕ) → k < length entries → e ≡ get_or entries k e → AddsWithin envelope points (HasEntry (take k entries)) old mid → AddsWithin envelope points (λ i. i ≡ e.place) mid new →
+  pub adds_entry : (entries : List Entry) (k : ℕ) (d : Entry) (old mid new : List ℕ) → k < length entries → AddsWithin envelope points (HasEntry (take k entries)) old mid → AddsWithin envelope points (λ i. i ≡ (get_or entries k d).place) mid new →
       AddsWithin envelope points (HasEntry (take (k + 1) entries)) old new
-  adds_entry entries k e old mid new l at = adds_then (HasEntry (take k entries)) (λ i. i ≡ e.place) (HasEntry (take (k + 1) entries)) old mid new parts
+  adds_entry entries k d old mid new l = adds_then (HasEntry (take k entries)) (λ i. i ≡ (get_or entries k d).place) (HasEntry (take (k + 1) entries)) old mid new parts
     where
-      parts : (i : ℕ) → HasEntry (take (k + 1) entries) i → HasEntry (take k entries) i ⊎ (i ≡ e.place)
+      parts : (i : ℕ) → HasEntry (take (k + 1) entries) i → HasEntry (take k entries) i ⊎ (i ≡ (get_or entries k d).place)
       parts i has = ⊎_elim
           (λ (before : Contains (take k entries) has.0). inl (has.0, before, has.2))
-          (λ (here : get_or entries k e ≡ has.0). inr (sym has.2 ∙ ap (λ (f : Entry). f.place) (sym here ∙ sym at)))
-          (Contains-push_cases (take k entries) (get_or entries k e) has.0 (subst (λ (es : List Entry). Contains es has.0) (take_more entries k e l) has.1))
+          (λ (here : get_or entries k d ≡ has.0). inr (sym has.2 ∙ ap (λ (f : Entry). f.place) (sym here)))
+          (Contains-push_cases (take k entries) (get_or entries k d) has.0 (subst (λ (es : List Entry). Contains es has.0) (take_more entries k d l) has.1))
 
   -- those of one stretch more
   pub adds_stretch : (from place end : ℕ) (old mid new : List ℕ) → AddsWithin envelope points (IsFromTo from place) old mid → AddsWithin envelope points (IsFromTo place end) mid new → AddsWithin envelope points (IsFromTo from end) old new
@@ -49,12 +49,12 @@ module _ (envelope : Envelope) (points : List Loc) where
         All-weaker (Contains between) (λ (e : Entry). e.place < length points) (λ (e : Entry) h. (All-contains (IsEntry points) stretch.by_x.items e is.whole.right (of_all e h)).inside) between (All-contains_itself between)
 
     -- the entries between the sides have all that lie in the rectangle
-    pub stretch_entries : ((e : Entry) → Contains stretch.by_x.items e → lt_z e.x envelope.left ≡ false → lt_z envelope.right e.x ≡ false → Contains between e) → (i : ℕ) → IsFromTo stretch.first stretch.end i → IsPlaceWithin envelope points i → HasEntry between i
-    stretch_entries whole i h at =
-        let has = is.whole.whole i h in let e = has.0 in
+    pub stretch_entries : (left right : ℤ) → left ≡ envelope.left → right ≡ envelope.right → ((e : Entry) → Contains stretch.by_x.items e → lt_z e.x left ≡ false → lt_z right e.x ≡ false → Contains between e) →
+        (i : ℕ) → IsFromTo stretch.first stretch.end i → IsPlaceWithin envelope points i → HasEntry between i
+    stretch_entries left right l r whole i h at =
+        let has = is.whole.whole i h in let e = has.0 in let inside = at.inside in
         let tells = All-contains (IsEntry points) stretch.by_x.items e is.whole.right has.1 in
-        let l = at.inside in
-        let d = (some_member points (omega (arith, l))).0 in
+        let d = (some_member points (omega (arith, inside))).0 in
         let here : e.x ≡ (get_or points i d).x = tells.x d ∙ ap (λ n. (get_or points n d).x) has.2 in
         let sides = within_sides envelope points (get_or points i d) (at.within d) in
-        (e, whole e has.1 (ap (λ x. lt_z x envelope.left) here ∙ sides.0) (ap (λ x. lt_z envelope.right x) here ∙ sides.1), has.2)
+        (e, whole e has.1 (ap₂ lt_z here l ∙ sides.0) (ap₂ lt_z r here ∙ sides.1), has.2)

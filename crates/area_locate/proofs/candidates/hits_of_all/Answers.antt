@@ -1,10 +1,13 @@
 -- One more candidate.
-use Rattle.std.proofs.Common.{List, ap, arith, drop, length, subst, sym, take, ◌∙◌, ◌≡◌}
+use Rattle.std.proofs.Common.{List, [], ap, arith, drop, length, refl, subst, sym, take, ◌∙◌, ◌≡◌}
 use Rattle.std.proofs.lemmas.List.{get_or_default, length-map, take_at}
 use Rattle.area_locate.specs.declared.found.Hit.{Hit}
 use Rattle.area_locate.specs.Areas.{HaveHits, all_hits}
 use Rattle.area_locate.proofs.Founds.{next_hits}
 use Rattle.area_locate.proofs.candidates.hits_of_all.Goals as goal
+
+pub loop-candidate-init : goal.loop-candidate-init
+loop-candidate-init c = (([], refl, c.in_ok-hits.ensures), c.new-index.ensures c.args.points.now)
 
 pub loop-candidate-preserved : goal.loop-candidate-preserved
 loop-candidate-preserved c =
