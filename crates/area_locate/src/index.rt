@@ -16,8 +16,8 @@ const SHORTEST: usize = 64;
 /// How many stretches make one of the next level.
 const PARTS: usize = 8;
 
-/// How often each point is passed, on average, before there are stretches. Making them takes about as long.
-const PASSES: usize = 32;
+/// How many rectangles have a point at their heights, on average, before there are stretches. Making these takes about as long.
+const PAYS_FROM: usize = 32;
 
 /// Stretches of so many points, one after another. The last may have fewer.
 #[derive(Drop)]
@@ -26,11 +26,11 @@ pub(crate) struct Level {
     pub(crate) stretches: Vec<Stretch>,
 }
 
-/// Levels, the longest stretches first, and how many points were at the heights of rectangles so far.
+/// Levels, the longest stretches first. There are none until many points have been at the heights of rectangles.
 #[derive(Drop)]
 pub(crate) struct PointIndex {
     pub(crate) levels: Vec<Level>,
-    pub(crate) passed: usize,
+    pub(crate) at_heights: usize,
 }
 
 impl Level {
@@ -45,22 +45,6 @@ impl Level {
         }
         None
     }
-}
-
-/// The longest stretch that begins at a place and ends by another.
-pub(crate) fn longest(index: &PointIndex, place: usize, to: usize) -> Option<&Stretch>
-    ensures { (points : List Loc) → IsIndex points index.now
-        → IfSome result (λ s. BeginsAt points place to s.now) }
-{
-    if place % SHORTEST != 0 {
-        return None;
-    }
-    for level in &index.levels {
-        if let Some(stretch) = level.stretch(place, to) {
-            return Some(stretch);
-        }
-    }
-    None
 }
 
 /// The shortest stretches.
@@ -78,7 +62,7 @@ fn shortest(alloc: Global, points: &[Loc]) -> Result<Vec<Stretch>, OutOfMemory>
     Ok(stretches)
 }
 
-/// Stretches that are so many times as long.
+/// Stretches of the next level.
 fn longer(alloc: Global, stretches: &[Stretch]) -> Result<Vec<Stretch>, OutOfMemory>
     ensures { (points : List Loc) → All (IsStretch points) stretches.now
         → IfOk result (λ v. All (IsStretch points) v.items) }
@@ -129,12 +113,12 @@ impl PointIndex {
     {
         PointIndex {
             levels: Vec::new(alloc),
-            passed: 0,
+            at_heights: 0,
         }
     }
 
-    /// Counts the points at the heights of a rectangle, and makes stretches once there were many.
-    pub(crate) fn pass(
+    /// Counts the points at the heights of a rectangle, and makes the stretches once there were many.
+    pub(crate) fn prepare(
         &mut self,
         alloc: Global,
         points: &[Loc],
@@ -143,10 +127,26 @@ impl PointIndex {
         requires { IsIndex points.now self.old }
         ensures { OnOk result (IsIndex points.now self.new) }
     {
-        self.passed = self.passed.saturating_add(count);
-        if self.levels.is_empty() && points.len() < self.passed / PASSES {
+        self.at_heights = self.at_heights.saturating_add(count);
+        if self.levels.is_empty() && points.len() < self.at_heights / PAYS_FROM {
             self.levels = levels_of(alloc, points)?;
         }
         Ok(())
+    }
+
+    /// The longest stretch that begins at a place and ends by another.
+    pub(crate) fn longest(&self, place: usize, to: usize) -> Option<&Stretch>
+        ensures { (points : List Loc) → IsIndex points self.now
+            → IfSome result (λ s. BeginsAt points place to s.now) }
+    {
+        if place % SHORTEST != 0 {
+            return None;
+        }
+        for level in &self.levels {
+            if let Some(stretch) = level.stretch(place, to) {
+                return Some(stretch);
+            }
+        }
+        None
     }
 }

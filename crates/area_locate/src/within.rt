@@ -10,7 +10,7 @@ ghost use Rattle.area_locate.specs.Index.{HasEntry, IsFromTo, IsIndex, IsStretch
 ghost use Rattle.area_locate.specs.Within.{AddsWithin, AreAllWithin};
 
 use crate::envelope::Envelope;
-use crate::index::{PointIndex, longest};
+use crate::index::PointIndex;
 use crate::stretch::{Entry, Stretch};
 use osm_lattice::Loc;
 use std::alloc::{AllocError as OutOfMemory, Global};
@@ -79,7 +79,7 @@ fn add_next(
     ensures { IfOk result (λ end. (place < end) × (end ≤ to) × AddsWithin envelope.now points.now
         (IsFromTo place end) found.old.items found.new.items) }
 {
-    match longest(index, place, to) {
+    match index.longest(place, to) {
         Some(stretch) => {
             add_stretch(found, points, envelope, stretch)?;
             Ok(stretch.end)
@@ -112,8 +112,8 @@ fn add_from_to(
     Ok(())
 }
 
-/// The places of the points that lie in the rectangle, in order. The index parts those at its heights into few stretches, of which those between its
-/// sides alone are looked at.
+/// The places of the points that lie in the rectangle, in order. The index parts those at its heights into few stretches, of each of which
+/// only those between its sides are looked at.
 pub(crate) fn places_within(
     alloc: Global,
     points: &[Loc],
@@ -127,7 +127,7 @@ pub(crate) fn places_within(
 {
     let from = points.partition_point(|p| p.y < envelope.low);
     let to = points.partition_point(|p| p.y <= envelope.high);
-    index.pass(alloc, points, to.saturating_sub(from))?;
+    index.prepare(alloc, points, to.saturating_sub(from))?;
     let mut places = Vec::new(alloc);
     add_from_to(&mut places, points, index, envelope, from, to)?;
     places.sort_unstable();

@@ -1,7 +1,7 @@
 -- It is one of a level.
 use Rattle.std.proofs.Common.{All, subst, sym}
 use Rattle.area_locate.specs.Index.{IsLevel}
-use Rattle.area_locate.proofs.index.longest.Goals as goal
+use Rattle.area_locate.proofs.index.PointIndex.longest.Goals as goal
 
 pub returns-in-Some : goal.returns-in-Some
 returns-in-Some c points index =
