@@ -10,17 +10,16 @@ use Rattle.std.proofs.lemmas.Int.{ints}
 use Rattle.std.proofs.lemmas.List.{get_or-drop, get_or-take, length-drop, length-take}
 use Rattle.std.proofs.lemmas.List.Elements.{All-append, All-push, Contains-append_left, Contains-append_right, Contains-push}
 use Rattle.std.proofs.lemmas.List.Sorted.{All-permutation, Contains-permutation, ranks_by, sorted_far}
-use Rattle.lists.proofs.ListsKit.{clash}
 use Rattle.osm_lattice.specs.declared.loc.Loc.{Loc}
 use Rattle.area_locate.specs.declared.stretch.Entry.{Entry}
-use Rattle.area_locate.specs.Index.{AreEntries, IsEntry, XNeverFalls}
-use Rattle.area_locate.proofs.WithinPoints.{at_most_too, below_too, not_off}
+use Rattle.area_locate.specs.Index.{AreEntries, IsPointEntry, XNeverFalls}
+use Rattle.area_locate.proofs.WithinPoints.{at_most_too, below_too}
 
 -- ---- put together
 module _ (points : List Loc) (first : ℕ) where
-  pub one_entry_more : (old new : List Entry) (place : ℕ) (e : Entry) → new ≡ old ++ e ∷ [] → IsEntry points e → e.place ≡ place → AreEntries points first place old → AreEntries points first (place + 1) new
+  pub one_entry_more : (old new : List Entry) (place : ℕ) (e : Entry) → new ≡ old ++ e ∷ [] → IsPointEntry points e → e.place ≡ place → AreEntries points first place old → AreEntries points first (place + 1) new
   one_entry_more old new place e grown is at was = subst (AreEntries points first (place + 1)) (sym grown) (record {
-    right = All-push (IsEntry points) old e was.right is;
+    right = All-push (IsPointEntry points) old e was.right is;
     whole = λ i h. let begun = h.0 in let l = h.1 in ⊎_elim
         (λ (same : i ≡ place). (e, Contains-push old e, subst (λ n. e.place ≡ n) (sym same) at))
         (λ (before : i < place). let had = was.whole i (begun, before) in (had.0, Contains-append_left old (e ∷ []) had.0 had.1, had.2))
@@ -29,7 +28,7 @@ module _ (points : List Loc) (first : ℕ) where
 
   pub entries_joined : (old more new : List Entry) (mid end : ℕ) → new ≡ old ++ more → AreEntries points first mid old → AreEntries points mid end more → AreEntries points first end new
   entries_joined old more new mid end grown was then = subst (AreEntries points first end) (sym grown) (record {
-    right = All-append (IsEntry points) old more was.right then.right;
+    right = All-append (IsPointEntry points) old more was.right then.right;
     whole = λ i h. ⊎_elim
         (λ (before : i < mid). let had = was.whole i (h.0, before) in (had.0, Contains-append_left old more had.0 had.1, had.2))
         (λ (after : mid ≤ i). let has = then.whole i (after, h.1) in (has.0, Contains-append_right old more has.0 has.1, has.2))
@@ -38,7 +37,7 @@ module _ (points : List Loc) (first : ℕ) where
 
   pub entries_moved : (old new : List Entry) (end : ℕ) → IsPermutation old new → AreEntries points first end old → AreEntries points first end new
   entries_moved old new end moved was = record {
-    right = All-permutation (IsEntry points) old new moved was.right;
+    right = All-permutation (IsPointEntry points) old new moved was.right;
     whole = λ i h. let had = was.whole i h in (had.0, Contains-permutation old new had.0 moved had.1, had.2);
   }
 
@@ -62,8 +61,8 @@ pub stands_between : (entries : List Entry) (left right : ℤ) (from to : ℕ) �
     (e : Entry) → Contains entries e → lt_z e.x left ≡ false → lt_z right e.x ≡ false → Contains (take (max to from - from) (drop from entries)) e
 stands_between entries left right from to before behind e some l r =
     let k = some.0 in let inside = some.1 in
-    let begun : from ≤ k = ⊎_elim (λ (h : k < from). absurd (clash (lt_z e.x left) (subst (λ (f : Entry). lt_z f.x left ≡ true) some.2 (before k e (omega arith) h)) l)) (λ (h : from ≤ k). h) (cases_lt k from) in
-    let ends : k < to = ⊎_elim (λ (h : k < to). h) (λ (h : to ≤ k). absurd (not_off (lt_z right e.x) r (subst (λ (f : Entry). not (lt_z right f.x) ≡ false) some.2 (behind k e h inside)))) (cases_lt k to) in
+    let begun : from ≤ k = ⊎_elim (λ (h : k < from). absurd (cc (sym (subst (λ (f : Entry). lt_z f.x left ≡ true) some.2 (before k e (omega arith) h)) ∙ l))) (λ (h : from ≤ k). h) (cases_lt k from) in
+    let ends : k < to = ⊎_elim (λ (h : k < to). h) (λ (h : to ≤ k). absurd (cc (sym (ap not r) ∙ subst (λ (f : Entry). not (lt_z right f.x) ≡ false) some.2 (behind k e h inside)))) (cases_lt k to) in
     let at : from + (k - from) ≡ k = omega arith in (
       k - from,
       simp (length-take, length-drop) (omega arith),

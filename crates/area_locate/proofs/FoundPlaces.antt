@@ -4,13 +4,12 @@ use lib.Signed.{lt_z}
 use Rattle.std.proofs.lemmas.Bool.{cases_lt}
 use Rattle.std.proofs.lemmas.List.{take_more}
 use Rattle.std.proofs.lemmas.List.Elements.{All-contains, All-contains_itself, All-weaker, Contains-push_cases}
-use Rattle.lists.proofs.ListsKit.{some_member}
 use Rattle.osm_lattice.specs.declared.loc.Loc.{Loc}
 use Rattle.area_locate.specs.declared.envelope.Envelope.{Envelope}
 use Rattle.area_locate.specs.declared.stretch.Entry.{Entry}
 use Rattle.area_locate.specs.declared.stretch.Stretch.{Stretch}
 use Rattle.area_locate.specs.Envelopes.{lacks}
-use Rattle.area_locate.specs.Index.{HasEntry, IsEntry, IsFromTo, IsStretch}
+use Rattle.area_locate.specs.Index.{HasEntry, IsPointEntry, IsFromTo, IsStretch}
 use Rattle.area_locate.specs.Within.{AddsWithin, IsPlaceWithin}
 use Rattle.area_locate.proofs.WithinPoints.{within_sides}
 
@@ -46,15 +45,14 @@ module _ (envelope : Envelope) (points : List Loc) where
   module _ (stretch : Stretch) (is : IsStretch points stretch) (between : List Entry) where
     pub entries_inside : ((e : Entry) → Contains between e → Contains stretch.by_x.items e) → (k : ℕ) (d : Entry) → k < length between → (get_or between k d).place < length points
     entries_inside of_all =
-        All-weaker (Contains between) (λ (e : Entry). e.place < length points) (λ (e : Entry) h. (All-contains (IsEntry points) stretch.by_x.items e is.whole.right (of_all e h)).inside) between (All-contains_itself between)
+        All-weaker (Contains between) (λ (e : Entry). e.place < length points) (λ (e : Entry) h. (All-contains (IsPointEntry points) stretch.by_x.items e is.whole.right (of_all e h)).inside) between (All-contains_itself between)
 
     -- the entries between the sides have all that lie in the rectangle
     pub stretch_entries : (left right : ℤ) → left ≡ envelope.left → right ≡ envelope.right → ((e : Entry) → Contains stretch.by_x.items e → lt_z e.x left ≡ false → lt_z right e.x ≡ false → Contains between e) →
         (i : ℕ) → IsFromTo stretch.first stretch.end i → IsPlaceWithin envelope points i → HasEntry between i
     stretch_entries left right l r whole i h at =
-        let has = is.whole.whole i h in let e = has.0 in let inside = at.inside in
-        let tells = All-contains (IsEntry points) stretch.by_x.items e is.whole.right has.1 in
-        let d = (some_member points (omega (arith, inside))).0 in
+        let has = is.whole.whole i h in let e = has.0 in
+        let tells = All-contains (IsPointEntry points) stretch.by_x.items e is.whole.right has.1 in
+        let sides = within_sides envelope points i at in let d = sides.0 in
         let here : e.x ≡ (get_or points i d).x = tells.x d ∙ ap (λ n. (get_or points n d).x) has.2 in
-        let sides = within_sides envelope points (get_or points i d) (at.within d) in
-        (e, whole e has.1 (ap₂ lt_z here l ∙ sides.0) (ap₂ lt_z r here ∙ sides.1), has.2)
+        (e, whole e has.1 (ap₂ lt_z here l ∙ sides.1) (ap₂ lt_z r here ∙ sides.2), has.2)

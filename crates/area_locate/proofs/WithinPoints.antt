@@ -13,7 +13,7 @@ use Rattle.std.proofs.lemmas.List.Filters.{All-dedup}
 use Rattle.std.proofs.lemmas.List.Kept.{AllPairs-from_increasing, Contains-dedup_nat}
 use Rattle.std.proofs.lemmas.List.Sorted.{All-permutation, Contains-permutation, ranks_by, sorted_far}
 use Rattle.std.proofs.lemmas.Map.Keys.{IsStrictlyIncreasing-dedup}
-use Rattle.lists.proofs.ListsKit.{clash, some_member}
+use Rattle.lists.proofs.ListsKit.{some_member}
 use Rattle.osm_lattice.specs.declared.loc.Loc.{Loc}
 use Rattle.osm_lattice.specs.Loc.{loc_cmp}
 use Rattle.osm_lattice.proofs.LatticeKit.{loc_total}
@@ -52,14 +52,14 @@ none_of_four false false true d h = absurd (cc h)
 none_of_four false false false true h = absurd (cc h)
 none_of_four false false false false h = (refl, refl, refl, refl)
 
-pub not_off : (b : Bool) → b ≡ false → not b ≡ false → ⊥
-not_off true h k = absurd (cc h)
-not_off false h k = absurd (cc k)
-
 module _ (envelope : Envelope) (points : List Loc) where
   -- it lies beyond none of the four sides
-  pub within_sides : (p : Loc) → lacks envelope p ≡ false → (lt_z p.x envelope.left ≡ false) × (lt_z envelope.right p.x ≡ false) × (lt_z p.y envelope.low ≡ false) × (lt_z envelope.high p.y ≡ false)
-  within_sides p = none_of_four (lt_z p.x envelope.left) (lt_z envelope.right p.x) (lt_z p.y envelope.low) (lt_z envelope.high p.y)
+  pub within_sides : (i : ℕ) → IsPlaceWithin envelope points i → (d : Loc) × (lt_z (get_or points i d).x envelope.left ≡ false) × (lt_z envelope.right (get_or points i d).x ≡ false) × (lt_z (get_or points i d).y envelope.low ≡ false) × (lt_z envelope.high (get_or points i d).y ≡ false)
+  within_sides i at =
+      let inside = at.inside in
+      let d = (some_member points (omega (arith, inside))).0 in let p = get_or points i d in
+      let sides = none_of_four (lt_z p.x envelope.left) (lt_z envelope.right p.x) (lt_z p.y envelope.low) (lt_z envelope.high p.y) (at.within d) in
+      (d, sides.0, sides.1, sides.2, sides.3)
 
   pub place_within : (i : ℕ) (d : Loc) → i < length points → lacks envelope (get_or points i d) ≡ false → IsPlaceWithin envelope points i
   place_within i d l in_it = record {
@@ -74,11 +74,9 @@ module _ (envelope : Envelope) (points : List Loc) where
   module _ (from to : ℕ) (low : AllWithin (λ (p : Loc). lt_z p.y envelope.low ≡ true) points 0 from) (high : AllWithin (λ (p : Loc). not (lt_z envelope.high p.y) ≡ false) points to (length points)) where
     at_heights : (i : ℕ) → IsPlaceWithin envelope points i → IsFromTo from to i
     at_heights i at =
-        let l = at.inside in
-        let d = (some_member points (omega (arith, l))).0 in
-        let sides = within_sides (get_or points i d) (at.within d) in (
-          ⊎_elim (λ (before : i < from). absurd (clash (lt_z (get_or points i d).y envelope.low) (low i d (omega arith) before) sides.2)) (λ (after : from ≤ i). after) (cases_lt i from),
-          ⊎_elim (λ (before : i < to). before) (λ (after : to ≤ i). absurd (not_off (lt_z envelope.high (get_or points i d).y) sides.3 (high i d after l))) (cases_lt i to),
+        let sides = within_sides i at in let d = sides.0 in (
+          ⊎_elim (λ (before : i < from). absurd (cc (sym (low i d (omega arith) before) ∙ sides.3))) (λ (after : from ≤ i). after) (cases_lt i from),
+          ⊎_elim (λ (before : i < to). before) (λ (after : to ≤ i). absurd (cc (sym (ap not sides.4) ∙ high i d after at.inside))) (cases_lt i to),
         )
 
     pub all_within : (found sorted : List ℕ) → AddsWithin envelope points (IsFromTo from to) [] found → IsPermutation found sorted → IsSorted nat_cmp sorted → AreAllWithin envelope points (dedup eqb sorted)

@@ -8,7 +8,7 @@ use Rattle.area_locate.specs.declared.stretch.Entry.{Entry}
 use Rattle.area_locate.specs.declared.stretch.Stretch.{Stretch}
 
 -- the entry tells the x of a point, and where it stands
-pub record IsEntry (points : List Loc) (entry : Entry) : Type 0 where
+pub record IsPointEntry (points : List Loc) (entry : Entry) : Type 0 where
   pub inside : entry.place < length points
   pub x : (d : Loc) → entry.x ≡ (slice_index_or points entry.place d).x
 
@@ -22,7 +22,7 @@ HasEntry entries i = (entry : Entry) × Contains entries entry × (entry.place �
 
 -- entries of points, with one for each place from the first to the end
 pub record AreEntries (points : List Loc) (first end : ℕ) (entries : List Entry) : Type 0 where
-  pub right : All (IsEntry points) entries
+  pub right : All (IsPointEntry points) entries
   pub whole : (i : ℕ) → IsFromTo first end i → HasEntry entries i
 
 -- no entry has a lower x than one before it
@@ -42,9 +42,9 @@ pub record BeginsAt (points : List Loc) (place to : ℕ) (stretch : Stretch) : T
   pub end : stretch.end ≤ to
 
 -- such stretches
-abbrev pub IsLevel : List Loc → Level → Type 0
-IsLevel points level = All (IsStretch points) level.stretches.items
+abbrev pub IsPointLevel : List Loc → Level → Type 0
+IsPointLevel points level = All (IsStretch points) level.stretches.items
 
 -- such levels
 abbrev pub IsIndex : List Loc → PointIndex → Type 0
-IsIndex points index = All (IsLevel points) index.levels.items
+IsIndex points index = All (IsPointLevel points) index.levels.items

@@ -4,7 +4,7 @@
 
 ghost use Rattle.std.specs.Prelude.{◌≡◌, ◌<◌, ◌≤◌, All, IfOk, IfSome, List, OnOk};
 ghost use Rattle.osm_lattice.specs.declared.loc.Loc.{Loc};
-ghost use Rattle.area_locate.specs.Index.{BeginsAt, IsIndex, IsLevel, IsStretch};
+ghost use Rattle.area_locate.specs.Index.{BeginsAt, IsIndex, IsPointLevel, IsStretch};
 
 use crate::stretch::{Stretch, joined, stretch_at};
 use osm_lattice::Loc;
@@ -36,7 +36,7 @@ pub(crate) struct PointIndex {
 impl Level {
     /// The stretch that begins at a place, if it ends by another.
     fn stretch(&self, place: usize, to: usize) -> Option<&Stretch>
-        ensures { (points : List Loc) → IsLevel points self.now
+        ensures { (points : List Loc) → IsPointLevel points self.now
             → IfSome result (λ s. BeginsAt points place to s.now) }
     {
         let stretch = self.stretches.get(place.checked_div(self.width)?)?;
@@ -79,8 +79,8 @@ fn longer(alloc: Global, stretches: &[Stretch]) -> Result<Vec<Stretch>, OutOfMem
 
 /// Adds the level above the last one.
 fn add_level(alloc: Global, levels: &mut Vec<Level>, width: usize) -> Result<(), OutOfMemory>
-    ensures { (points : List Loc) → All (IsLevel points) levels.old.items
-        → OnOk result (All (IsLevel points) levels.new.items) }
+    ensures { (points : List Loc) → All (IsPointLevel points) levels.old.items
+        → OnOk result (All (IsPointLevel points) levels.new.items) }
 {
     let stretches = match levels.last() {
         Some(level) => longer(alloc, &level.stretches)?,
@@ -92,7 +92,7 @@ fn add_level(alloc: Global, levels: &mut Vec<Level>, width: usize) -> Result<(),
 
 /// The levels of stretches of points, the longest ones first.
 fn levels_of(alloc: Global, points: &[Loc]) -> Result<Vec<Level>, OutOfMemory>
-    ensures { IfOk result (λ v. All (IsLevel points.now) v.items) }
+    ensures { IfOk result (λ v. All (IsPointLevel points.now) v.items) }
 {
     let mut width = SHORTEST;
     let stretches = shortest(alloc, points)?;
