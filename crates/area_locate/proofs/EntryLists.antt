@@ -1,5 +1,5 @@
 -- Entries of places, put together and in order.
-use Rattle.std.proofs.Common.{All, Contains, List, [], ap, arith, drop, eq-or-lt_of_le, false, get_or, length, max, not, subst, sym, take, true, ℕ, ℤ, ⊎_elim, ◌++◌, ◌+◌, ◌-◌, ◌<◌, ◌∙◌, ◌≤◌, ◌∷◌, ◌≡◌}
+use Rattle.std.proofs.Common.{Contains, List, [], ap, arith, drop, eq-or-lt_of_le, false, get_or, length, max, not, subst, sym, take, true, ℕ, ℤ, ⊎_elim, ◌++◌, ◌+◌, ◌-◌, ◌<◌, ◌∙◌, ◌≤◌, ◌∷◌, ◌≡◌}
 use lib.Signed.{lt_z}
 use Rattle.std.specs.List.{AllWithin}
 use Rattle.std.specs.List.Sorted.{IsPartitionedBy, IsPermutation, IsSortedByKey}

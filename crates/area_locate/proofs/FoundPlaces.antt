@@ -1,5 +1,5 @@
 -- Places found one after another.
-use Rattle.std.proofs.Common.{Contains, List, [], ap, ap₂, arith, false, get_or, inl, inr, length, refl, subst, sym, take, ℕ, ℤ, ⊎_elim, ◌++◌, ◌+◌, ◌<◌, ◌∙◌, ◌∷◌, ◌≡◌, ◌≤◌, ◌⊎◌}
+use Rattle.std.proofs.Common.{Contains, List, ap, ap₂, false, get_or, inl, inr, length, subst, sym, take, ℕ, ℤ, ⊎_elim, ◌+◌, ◌<◌, ◌∙◌, ◌≡◌, ◌≤◌, ◌⊎◌}
 use lib.Signed.{lt_z}
 use Rattle.std.proofs.lemmas.Bool.{cases_lt}
 use Rattle.std.proofs.lemmas.List.{take_more}
@@ -8,7 +8,6 @@ use Rattle.osm_lattice.specs.declared.loc.Loc.{Loc}
 use Rattle.area_locate.specs.declared.envelope.Envelope.{Envelope}
 use Rattle.area_locate.specs.declared.stretch.Entry.{Entry}
 use Rattle.area_locate.specs.declared.stretch.Stretch.{Stretch}
-use Rattle.area_locate.specs.Envelopes.{lacks}
 use Rattle.area_locate.specs.Index.{HasEntry, IsPointEntry, IsFromTo, IsStretch}
 use Rattle.area_locate.specs.Within.{AddsWithin, IsPlaceWithin}
 use Rattle.area_locate.proofs.WithinPoints.{within_sides}

@@ -1,5 +1,5 @@
 -- Which points lie in a rectangle, of points in order.
-use Rattle.std.proofs.Common.{All, Bool, List, [], ap, arith, eq-or-lt_of_le, eqb, false, get_or, length, map, not, refl, subst, sym, take, true, ℕ, ℤ, ⊎_elim, ◌++◌, ◌+◌, ◌<◌, ◌||◌, ◌∙◌, ◌∷◌, ◌≡◌, ◌≤◌, ◌⊎◌}
+use Rattle.std.proofs.Common.{All, Bool, List, [], ap, arith, eq-or-lt_of_le, eqb, false, get_or, length, map, not, refl, subst, sym, take, true, ℕ, ℤ, ⊎_elim, ◌++◌, ◌+◌, ◌<◌, ◌||◌, ◌∙◌, ◌∷◌, ◌≡◌, ◌≤◌}
 use lib.Signed.{lt_z}
 use Rattle.std.specs.List.{AllWithin, dedup}
 use Rattle.std.specs.List.Sorted.{IsPartitionedBy, IsPermutation, IsSorted, IsStrictlyIncreasing}

@@ -1,6 +1,5 @@
 -- One more part, if it begins where the others end.
-use Rattle.std.proofs.Common.{List, subst, sym, ℕ}
-use Rattle.area_locate.specs.declared.stretch.Entry.{Entry}
+use Rattle.std.proofs.Common.{subst, sym, ℕ}
 use Rattle.area_locate.specs.Index.{AreEntries, IsStretch}
 use Rattle.area_locate.proofs.EntryLists.{entries_joined}
 use Rattle.area_locate.proofs.stretch.joined.Goals.{then-part-end+in_ok-extend_from_slice, else-part-end}
