@@ -11,7 +11,8 @@ use Rattle.osm_elements.specs.declared.object.ObjectRef.{ObjectRef}
 use Rattle.area_locate.specs.declared.found.Hit.{Hit}
 use Rattle.area_locate.specs.Areas.{Area, HaveFurther, hits_by, hits_of}
 use Rattle.area_locate.specs.Envelopes.{lacks}
-use Rattle.area_locate.specs.Within.{AreAllWithin, hits_at}
+use Rattle.area_locate.specs.Within.{AreAllWithin, IsPlaceWithin, hits_at}
+use Rattle.area_locate.proofs.WithinPoints.{place_within}
 
 eq_true : (i j : ℕ) → nat_eq i j ≡ true → i ≡ j
 eq_true i j h = grind arith
@@ -86,8 +87,8 @@ module _ (area : Area) (points : List Loc) (near : List ℕ) (within : AreAllWit
   hits_there j d h = ap (hits_at area.of j near) (lie ∙ ap (map (λ p. place_among p area.sides)) (at d) ∙ map-map (λ p. place_among p area.sides) (λ i. get_or points i d) near) ∙ by (lacks area.envelope (get_or points j d)) refl
     where
       by : (b : Bool) → lacks area.envelope (get_or points j d) ≡ b → hits_at area.of j near (map (place_at d) near) ≡ cond b [] (hits_by area.of (place_among (get_or points j d) area.sides))
-      by true out = hits_out area.of j near (map (place_at d) near) (λ some. absurd (let inside = All-contains (λ i. (d : Loc) → lacks area.envelope (get_or points i d) ≡ false) near j within.within some d in clash (lacks area.envelope (get_or points j d)) out inside))
-      by false inside = hits_in area.of j near (place_at d) (AllPairs-from_increasing near within.rising) (within.whole j d h inside)
+      by true out = hits_out area.of j near (map (place_at d) near) (λ some. absurd (let inside = (All-contains (IsPlaceWithin area.envelope points) near j within.right some).within d in clash (lacks area.envelope (get_or points j d)) out inside))
+      by false inside = hits_in area.of j near (place_at d) (AllPairs-from_increasing near within.rising) (within.whole j (place_within area.envelope points j d h inside))
 
   pub have_further : (old new : List (List Hit)) → length new ≡ length old → ((j : ℕ) → j < length old → get_or new j [] ≡ get_or old j [] ++ hits_at area.of j near places) → HaveFurther (λ p. hits_of p area) points old new
   have_further old new long added f was =

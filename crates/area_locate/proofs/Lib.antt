@@ -1,5 +1,7 @@
 mod AddedHits
 mod Enclosing
+mod EntryLists
+mod FoundPlaces
 mod Founds
 mod OutsideSides
 mod Places

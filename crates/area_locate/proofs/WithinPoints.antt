@@ -1,35 +1,37 @@
 -- Which points lie in a rectangle, of points in order.
-use Rattle.std.proofs.Common.{All, Bool, Contains, List, [], ap, arith, eq-or-lt_of_le, false, get_or, inl, inr, length, map, subst, sym, take, true, ℕ, ℤ, ⊎_elim, ◌++◌, ◌+◌, ◌<◌, ◌||◌, ◌∙◌, ◌∷◌, ◌≡◌, ◌≤◌, ◌⊎◌}
+use Rattle.std.proofs.Common.{All, Bool, List, [], ap, arith, eq-or-lt_of_le, eqb, false, get_or, length, map, not, refl, subst, sym, take, true, ℕ, ℤ, ⊎_elim, ◌++◌, ◌+◌, ◌<◌, ◌||◌, ◌∙◌, ◌∷◌, ◌≡◌, ◌≤◌}
 use lib.Signed.{lt_z}
-use Rattle.std.specs.List.{AllWithin}
-use Rattle.std.specs.List.Sorted.{IsPartitionedBy, IsSorted, IsStrictlyIncreasing}
+use Rattle.std.specs.List.{AllWithin, dedup}
+use Rattle.std.specs.List.Sorted.{IsPartitionedBy, IsPermutation, IsSorted, IsStrictlyIncreasing}
 use Rattle.std.specs.declared.cmp.Ordering.{Ordering}
-use Rattle.std.specs.Ordering.{int_cmp, is_lt, ordering_then}
+use Rattle.std.specs.Ordering.{int_cmp, is_lt, nat_cmp, ordering_then}
 use Rattle.std.proofs.lemmas.Bool.{cases_lt}
 use Rattle.std.proofs.lemmas.Int.{ints}
 use Rattle.std.proofs.lemmas.List.{get_or-map, get_or_default, length-map, map_more}
-use Rattle.std.proofs.lemmas.List.Elements.{All-nil, All-push, Contains-append_left, Contains-push}
-use Rattle.std.proofs.lemmas.List.Kept.{AllPairs-from_increasing}
-use Rattle.std.proofs.lemmas.List.Quantifiers.{all_pairs_push}
-use Rattle.std.proofs.lemmas.List.Sorted.{ranks_by, sorted_far}
-use Rattle.lists.proofs.ListsKit.{clash}
+use Rattle.std.proofs.lemmas.List.Elements.{All-nil, All-weaker}
+use Rattle.std.proofs.lemmas.List.Filters.{All-dedup}
+use Rattle.std.proofs.lemmas.List.Kept.{AllPairs-from_increasing, Contains-dedup_nat}
+use Rattle.std.proofs.lemmas.List.Sorted.{All-permutation, Contains-permutation, ranks_by, sorted_far}
+use Rattle.std.proofs.lemmas.Map.Keys.{IsStrictlyIncreasing-dedup}
+use Rattle.lists.proofs.ListsKit.{some_member}
 use Rattle.osm_lattice.specs.declared.loc.Loc.{Loc}
 use Rattle.osm_lattice.specs.Loc.{loc_cmp}
 use Rattle.osm_lattice.proofs.LatticeKit.{loc_total}
 use Rattle.osm_sides.specs.PointPlaces.{HeightsNeverFall}
 use Rattle.area_locate.specs.declared.envelope.Envelope.{Envelope}
 use Rattle.area_locate.specs.Envelopes.{lacks}
-use Rattle.area_locate.specs.Within.{AreFirstWithin}
+use Rattle.area_locate.specs.Index.{IsFromTo}
+use Rattle.area_locate.specs.Within.{AddsWithin, AreAllWithin, IsPlaceWithin}
 
 -- ---- heights
 not_lower : (y z : ℤ) (o : Ordering) → is_lt (ordering_then (int_cmp y z) o) ≡ false → lt_z y z ≡ false
 not_lower y z o h = grind (arith, ints)
 
-below_too : (y z low : ℤ) → lt_z z y ≡ false → lt_z z low ≡ true → lt_z y low ≡ true
+pub below_too : (y z low : ℤ) → lt_z z y ≡ false → lt_z z low ≡ true → lt_z y low ≡ true
 below_too y z low h k = grind (arith, ints)
 
-above_too : (y z high : ℤ) → lt_z z y ≡ false → lt_z high y ≡ true → lt_z high z ≡ true
-above_too y z high h k = grind (arith, ints)
+pub at_most_too : (y z high : ℤ) → lt_z z y ≡ false → not (lt_z high z) ≡ true → not (lt_z high y) ≡ true
+at_most_too y z high h k = grind (arith, ints)
 
 pub heights_rise : (points : List Loc) → IsSorted loc_cmp points → HeightsNeverFall points
 heights_rise points sorted i j d h l =
@@ -39,83 +41,49 @@ heights_rise points sorted i j d h l =
 pub low_parts : (points : List Loc) (low : ℤ) → HeightsNeverFall points → IsPartitionedBy (λ (p : Loc). lt_z p.y low) points
 low_parts points low rise i j d h l k = below_too (get_or points i d).y (get_or points j d).y low (rise i j d h l) k
 
--- ---- points off the rectangle's heights
-low_out : (a b c d : Bool) → c ≡ true → (a || (b || (c || d))) ≡ false → ⊥
-low_out true b c d h k = absurd (cc k)
-low_out false true c d h k = absurd (cc k)
-low_out false false true d h k = absurd (cc k)
-low_out false false false d h k = absurd (cc h)
+pub high_parts : (points : List Loc) (high : ℤ) → HeightsNeverFall points → IsPartitionedBy (λ (p : Loc). not (lt_z high p.y)) points
+high_parts points high rise i j d h l k = at_most_too (get_or points i d).y (get_or points j d).y high (rise i j d h l) k
 
-high_out : (a b c d : Bool) → d ≡ true → (a || (b || (c || d))) ≡ false → ⊥
-high_out true b c d h k = absurd (cc k)
-high_out false true c d h k = absurd (cc k)
-high_out false false true d h k = absurd (cc k)
-high_out false false false true h k = absurd (cc k)
-high_out false false false false h k = absurd (cc h)
-
-rising_push : (xs : List ℕ) (n : ℕ) → IsStrictlyIncreasing xs → All (λ i. i < n) xs → IsStrictlyIncreasing (xs ++ n ∷ [])
-rising_push xs n up below k l = all_pairs_push (λ x y. x < y) xs n (AllPairs-from_increasing xs up) below k (k + 1) 0 (omega arith) l
+-- ---- points in the rectangle
+none_of_four : (a b c d : Bool) → (a || (b || (c || d))) ≡ false → (a ≡ false) × (b ≡ false) × (c ≡ false) × (d ≡ false)
+none_of_four true b c d h = absurd (cc h)
+none_of_four false true c d h = absurd (cc h)
+none_of_four false false true d h = absurd (cc h)
+none_of_four false false false true h = absurd (cc h)
+none_of_four false false false false h = (refl, refl, refl, refl)
 
 module _ (envelope : Envelope) (points : List Loc) where
-  lacks_low : (p : Loc) → lt_z p.y envelope.low ≡ true → lacks envelope p ≡ false → ⊥
-  lacks_low p = low_out (lt_z p.x envelope.left) (lt_z envelope.right p.x) (lt_z p.y envelope.low) (lt_z envelope.high p.y)
+  -- it lies beyond none of the four sides
+  pub within_sides : (i : ℕ) → IsPlaceWithin envelope points i → (d : Loc) × (lt_z (get_or points i d).x envelope.left ≡ false) × (lt_z envelope.right (get_or points i d).x ≡ false) × (lt_z (get_or points i d).y envelope.low ≡ false) × (lt_z envelope.high (get_or points i d).y ≡ false)
+  within_sides i at =
+      let inside = at.inside in
+      let d = (some_member points (omega (arith, inside))).0 in let p = get_or points i d in
+      let sides = none_of_four (lt_z p.x envelope.left) (lt_z envelope.right p.x) (lt_z p.y envelope.low) (lt_z envelope.high p.y) (at.within d) in
+      (d, sides.0, sides.1, sides.2, sides.3)
 
-  lacks_high : (p : Loc) → lt_z envelope.high p.y ≡ true → lacks envelope p ≡ false → ⊥
-  lacks_high p = high_out (lt_z p.x envelope.left) (lt_z envelope.right p.x) (lt_z p.y envelope.low) (lt_z envelope.high p.y)
+  pub place_within : (i : ℕ) (d : Loc) → i < length points → lacks envelope (get_or points i d) ≡ false → IsPlaceWithin envelope points i
+  place_within i d l in_it = record {
+    inside = l;
+    within = λ e. subst (λ (p : Loc). lacks envelope p ≡ false) (get_or_default points i d e l) in_it;
+  }
 
-  -- below the rectangle is none of the first points
-  pub none_low : (from : ℕ) (places : List ℕ) → places ≡ [] → AllWithin (λ (p : Loc). lt_z p.y envelope.low ≡ true) points 0 from → from ≤ length points → AreFirstWithin envelope points from places
-  none_low from places none low l = subst (AreFirstWithin envelope points from) (sym none) (record {
-    rising = λ k h. absurd (omega arith);
-    inside = All-nil (λ i. i < from);
-    within = All-nil (λ i. (d : Loc) → lacks envelope (get_or points i d) ≡ false);
-    whole = λ i d h k. absurd (lacks_low (get_or points i d) (low i d (omega arith) h) k);
-  })
+  pub places_inside : (places : List ℕ) → AreAllWithin envelope points places → All (λ i. i < length points) places
+  places_inside places are = All-weaker (IsPlaceWithin envelope points) (λ i. i < length points) (λ i at. at.inside) places are.right
 
-  module _ (place : ℕ) (places : List ℕ) (first : AreFirstWithin envelope points place places) (at : Loc) (is : at ≡ get_or points place at) (l : place < length points) where
-    here : (d : Loc) → get_or points place d ≡ at
-    here d = get_or_default points place d at l ∙ sym is
+  -- ---- all of them, found among those at the heights of the rectangle
+  module _ (from to : ℕ) (low : AllWithin (λ (p : Loc). lt_z p.y envelope.low ≡ true) points 0 from) (high : AllWithin (λ (p : Loc). not (lt_z envelope.high p.y) ≡ false) points to (length points)) where
+    at_heights : (i : ℕ) → IsPlaceWithin envelope points i → IsFromTo from to i
+    at_heights i at =
+        let sides = within_sides i at in let d = sides.0 in (
+          ⊎_elim (λ (before : i < from). absurd (cc (sym (low i d (omega arith) before) ∙ sides.3))) (λ (after : from ≤ i). after) (cases_lt i from),
+          ⊎_elim (λ (before : i < to). before) (λ (after : to ≤ i). absurd (cc (sym (ap not sides.4) ∙ high i d after at.inside))) (cases_lt i to),
+        )
 
-    earlier_or : (i : ℕ) (d : Loc) → i < place + 1 → lacks envelope (get_or points i d) ≡ false → Contains places i ⊎ ((i ≡ place) × (lacks envelope at ≡ false))
-    earlier_or i d h k = ⊎_elim
-        (λ (same : i ≡ place). inr (same, subst (λ (p : Loc). lacks envelope p ≡ false) (here d) (subst (λ n. lacks envelope (get_or points n d) ≡ false) same k)))
-        (λ (before : i < place). inl (first.whole i d before k))
-        (eq-or-lt_of_le (omega arith))
-
-    -- one point more, in the rectangle or not
-    pub one_in : (new : List ℕ) → new ≡ places ++ place ∷ [] → lacks envelope at ≡ false → AreFirstWithin envelope points (place + 1) new
-    one_in new grown in_it = subst (AreFirstWithin envelope points (place + 1)) (sym grown) (record {
-      rising = rising_push places place first.rising first.inside;
-      inside = All-push (λ i. i < place + 1) places place (λ k d h. let m = first.inside k d h in omega (arith, m)) (omega arith);
-      within = All-push (λ i. (d : Loc) → lacks envelope (get_or points i d) ≡ false) places place first.within (λ d. subst (λ (p : Loc). lacks envelope p ≡ false) (sym (here d)) in_it);
-      whole = λ i d h k. ⊎_elim
-          (λ (old : Contains places i). Contains-append_left places (place ∷ []) i old)
-          (λ (now : (i ≡ place) × (lacks envelope at ≡ false)). subst (Contains (places ++ place ∷ [])) (sym now.0) (Contains-push places place))
-          (earlier_or i d h k);
-    })
-
-    pub one_out : (new : List ℕ) → new ≡ places → lacks envelope at ≡ true → AreFirstWithin envelope points (place + 1) new
-    one_out new same out = subst (AreFirstWithin envelope points (place + 1)) (sym same) (record {
-      rising = first.rising;
-      inside = λ k d h. let m = first.inside k d h in omega (arith, m);
-      within = first.within;
-      whole = λ i d h k. ⊎_elim
-          (λ (old : Contains places i). old)
-          (λ (now : (i ≡ place) × (lacks envelope at ≡ false)). absurd (clash (lacks envelope at) out now.1))
-          (earlier_or i d h k);
-    })
-
-    -- from a point above the rectangle on there is none
-    pub none_high : HeightsNeverFall points → lt_z envelope.high at.y ≡ true → AreFirstWithin envelope points (length points) places
-    none_high rise high = record {
-      rising = first.rising;
-      inside = λ k d h. let m = first.inside k d h in omega (arith, m);
-      within = first.within;
-      whole = λ i d h k. ⊎_elim
-          (λ (before : i < place). first.whole i d before k)
-          (λ (after : place ≤ i).
-          absurd (lacks_high (get_or points i d) (above_too at.y (get_or points i d).y envelope.high (subst (λ (p : Loc). lt_z (get_or points i d).y p.y ≡ false) (here d) (rise place i d after h)) high) k))
-          (cases_lt i place);
+    pub all_within : (found sorted : List ℕ) → AddsWithin envelope points (IsFromTo from to) [] found → IsPermutation found sorted → IsSorted nat_cmp sorted → AreAllWithin envelope points (dedup eqb sorted)
+    all_within found sorted adds moved up = record {
+      rising = IsStrictlyIncreasing-dedup sorted up;
+      right = All-dedup eqb (IsPlaceWithin envelope points) sorted (All-permutation (IsPlaceWithin envelope points) found sorted moved (adds.within (All-nil (IsPlaceWithin envelope points))));
+      whole = λ i at. Contains-dedup_nat sorted i (Contains-permutation found sorted i moved (adds.whole i (at_heights i at) at));
     }
 
 -- ---- the points at rising places

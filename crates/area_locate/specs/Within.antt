@@ -9,16 +9,22 @@ use Rattle.area_locate.specs.declared.found.Hit.{Hit}
 use Rattle.area_locate.specs.Areas.{hits_by}
 use Rattle.area_locate.specs.Envelopes.{lacks}
 
--- of the first so many points the places of those in the rectangle, in order
-pub record AreFirstWithin (envelope : Envelope) (points : List Loc) (count : ℕ) (places : List ℕ) : Type 0 where
-  pub rising : IsStrictlyIncreasing places
-  pub inside : All (λ i. i < count) places
-  pub within : All (λ i. (d : Loc) → lacks envelope (slice_index_or points i d) ≡ false) places
-  pub whole : (i : ℕ) (d : Loc) → i < count → lacks envelope (slice_index_or points i d) ≡ false → Contains places i
+-- the place of a point that lies in the rectangle
+pub record IsPlaceWithin (envelope : Envelope) (points : List Loc) (i : ℕ) : Type 0 where
+  pub inside : i < length points
+  pub within : (d : Loc) → lacks envelope (slice_index_or points i d) ≡ false
 
--- those of all points
-abbrev pub AreAllWithin : Envelope → List Loc → List ℕ → Type 0
-AreAllWithin envelope points places = AreFirstWithin envelope points (length points) places
+-- the places of all points that lie in it, in order
+pub record AreAllWithin (envelope : Envelope) (points : List Loc) (places : List ℕ) : Type 0 where
+  pub rising : IsStrictlyIncreasing places
+  pub right : All (IsPlaceWithin envelope points) places
+  pub whole : (i : ℕ) → IsPlaceWithin envelope points i → Contains places i
+
+-- further places are found: of points in the rectangle alone, and among some places all of these
+pub record AddsWithin (envelope : Envelope) (points : List Loc) (among : ℕ → Type 0) (old new : List ℕ) : Type 0 where
+  pub kept : (i : ℕ) → Contains old i → Contains new i
+  pub within : All (IsPlaceWithin envelope points) old → All (IsPlaceWithin envelope points) new
+  pub whole : (i : ℕ) → among i → IsPlaceWithin envelope points i → Contains new i
 
 -- the hits that the j-th point gets where the points at these places lie so
 abbrev pub hits_at : ObjectRef → ℕ → List ℕ → List Place → List Hit

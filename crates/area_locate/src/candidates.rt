@@ -7,11 +7,13 @@ ghost use Rattle.osm_sides.specs.PointPlaces.{place_among};
 ghost use Rattle.area_locate.specs.declared.found.Hit.{Hit};
 ghost use Rattle.area_locate.specs.Areas.{Area, HaveFurther, HaveHits, IsAreaIn, hits_by, hits_of};
 ghost use Rattle.area_locate.specs.Envelopes.{Encloses};
+ghost use Rattle.area_locate.specs.Index.{IsIndex};
 ghost use Rattle.area_locate.specs.Within.{hits_at};
 ghost use Rattle.osm_area.specs.Sound.{IsSound};
 
 use crate::envelope::Envelope;
 use crate::found::{Hit, Hits};
+use crate::index::PointIndex;
 use crate::within::{places_within, points_at};
 use osm_area::area_outline;
 use osm_elements::ObjectRef;
@@ -56,17 +58,20 @@ fn add_area(
     alloc: Global,
     hits: &mut [Hits],
     points: &[Loc],
+    index: &mut PointIndex,
     of: ObjectRef,
     outline: Outline,
 ) -> Result<(), OutOfMemory>
     requires sorted { IsSorted loc_cmp points.now }
+    requires index { IsIndex points.now index.old }
     requires all { length hits.old ≡ length points.now }
-    ensures { OnOk result ((envelope : Envelope) × Encloses envelope outline
+    ensures index { OnOk result (IsIndex points.now index.new) }
+    ensures added { OnOk result ((envelope : Envelope) × Encloses envelope outline
         × HaveFurther (λ p. hits_of p (record { of = of; envelope = envelope; sides = outline }))
         points.now hits.old hits.new) }
 {
     let envelope = Envelope::of(outline.as_slice());
-    let near = places_within(alloc, points, &envelope)?;
+    let near = places_within(alloc, points, index, &envelope)?;
     let there = points_at(alloc, points, &near)?;
     let places = places_among(alloc, outline, &there)?;
     add_hits(hits, of, &near, &places)
@@ -77,17 +82,20 @@ fn add_candidate(
     alloc: Global,
     hits: &mut [Hits],
     points: &[Loc],
+    index: &mut PointIndex,
     store: &Store,
     candidate: ObjectRef,
 ) -> Result<(), OutOfMemory>
     requires sorted { IsSorted loc_cmp points.now }
+    requires index { IsIndex points.now index.old }
     requires all { length hits.old ≡ length points.now }
-    ensures { OnOk result (((IsSound store.now candidate → ⊥) × (hits.new ≡ hits.old))
+    ensures index { OnOk result (IsIndex points.now index.new) }
+    ensures added { OnOk result (((IsSound store.now candidate → ⊥) × (hits.new ≡ hits.old))
         ⊎ ((area : Area) × IsAreaIn store.now candidate area
         × HaveFurther (λ p. hits_of p area) points.now hits.old hits.new)) }
 {
     match area_outline(alloc, store, candidate)? {
-        Some(outline) => add_area(alloc, hits, points, candidate, outline),
+        Some(outline) => add_area(alloc, hits, points, index, candidate, outline),
         None => Ok(()),
     }
 }
@@ -114,9 +122,10 @@ pub(crate) fn hits_of_all(
     requires { IsSorted loc_cmp points.now }
     ensures { IfOk result (λ hits. HaveHits store.now candidates.now points.now hits.items) }
 {
+    let mut index = PointIndex::new(alloc);
     let mut hits = no_hits(alloc, points)?;
     for &candidate in candidates {
-        add_candidate(alloc, &mut hits, points, store, candidate)?;
+        add_candidate(alloc, &mut hits, points, &mut index, store, candidate)?;
     }
     Ok(hits)
 }

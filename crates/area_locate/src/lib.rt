@@ -4,8 +4,10 @@
 mod candidates;
 mod envelope;
 mod found;
+mod index;
 mod laws;
 mod locating;
+mod stretch;
 mod within;
 
 pub use found::{Found, FoundList, Hit, Hits};

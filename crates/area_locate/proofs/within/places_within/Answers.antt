@@ -1,35 +1,19 @@
--- Points below the rectangle, one more point, and those above it.
-use Rattle.std.proofs.Common.{ap, ap₂, arith, get_or, refl, rules, sym, w32, ◌∙◌}
+-- All points in the rectangle are at its heights.
+use Rattle.std.proofs.Common.{List, not, rules, subst, sym, ℕ}
 use lib.Signed.{lt_z}
-use Rattle.std.proofs.lemmas.Int.{to_z-of_z}
+use Rattle.std.proofs.lemmas.List.Filters.{dedup_is}
 use Rattle.std.proofs.lemmas.List.Sorted.{IsPartitionPoint-from_clause}
 use Rattle.osm_lattice.specs.declared.loc.Loc.{Loc}
-use Rattle.area_locate.proofs.WithinPoints.{heights_rise, low_parts, none_high, none_low, one_in, one_out}
-use Rattle.area_locate.proofs.within.places_within.Goals.{then-not-lacks+in_ok-push, else-not-lacks}
+use Rattle.area_locate.specs.Index.{IsFromTo}
+use Rattle.area_locate.specs.Within.{AddsWithin, AreAllWithin}
+use Rattle.area_locate.proofs.WithinPoints.{all_within, heights_rise, high_parts, low_parts}
 use Rattle.area_locate.proofs.within.places_within.Goals as goal
 
-pub loop-place-init : goal.loop-place-init
-loop-place-init c =
-    let points = c.args.points.now in let envelope = c.args.envelope.now in let from = c.partition_point-from.result in
-    let point = IsPartitionPoint-from_clause (λ (p : Loc). lt_z p.y envelope.low) points from c.partition_point-from.ensures.partitioned (low_parts points envelope.low (heights_rise points c.requires)) (λ a r f' k. search rules) in
-    (c.partition_point-from.ensures.bound, none_low envelope points from c.new-places.result.items c.new-places.ensures.items point.0 c.partition_point-from.ensures.bound)
-
-pub returns-then-envelope-points : goal.returns-then-envelope-points
-returns-then-envelope-points c =
-    let points = c.args.points.now in let envelope = c.args.envelope.now in let at = c.index-points-place.result in
-    let read = get_or points c.loop-place.place at in
-    let high = ap (λ (p : Loc). lt_z envelope.high p.y) c.index-points-place.is ∙ sym (ap₂ lt_z (to_z-of_z w32 envelope.high (search rules)) (to_z-of_z w32 read.y (search rules))) ∙ c.if-envelope-points.true in
-    none_high envelope points c.loop-place.place c.loop-place.places.items c.loop-place.invariant.1 at c.index-points-place.is c.loop-place-test.true (heights_rise points c.requires) high
-
-pub loop-place-preserved : goal.loop-place-preserved
-loop-place-preserved c =
-    let envelope = c.args.envelope.now in let points = c.args.points.now in let place = c.loop-place.place in let at = c.index-points-place-in-loop-place.result in
-    let inside = c.loop-place-test.true in (
-      omega (arith, inside),
-      elim c.if-not-lacks.branch [
-        | then-not-lacks+in_ok-push w ↦
-            rw w.places-is (one_in envelope points place c.loop-place.places.items c.loop-place.invariant.1 at c.index-points-place-in-loop-place.is inside _ w.in_ok-push.ensures.items (sym c.lacks.ensures ∙ w.if-not-lacks.true))
-        | else-not-lacks w ↦
-            rw w.places-is (one_out envelope points place c.loop-place.places.items c.loop-place.invariant.1 at c.index-points-place-in-loop-place.is inside _ refl (sym c.lacks.ensures ∙ w.if-not-lacks.false))
-      ],
-    )
+pub returns-clause-places : goal.returns-clause-places
+returns-clause-places c =
+    let points = c.args.points.now in let envelope = c.args.envelope.now in let from = c.partition_point-from.result in let to = c.partition_point-to.result in
+    let found = c.add_from_to.new.found.items in let sorted = c.sort_unstable.new.self.items in
+    let low = IsPartitionPoint-from_clause (λ (p : Loc). lt_z p.y envelope.low) points from c.partition_point-from.ensures.partitioned (low_parts points envelope.low (heights_rise points c.requires.sorted)) (λ a r f' k. search rules) in
+    let high = IsPartitionPoint-from_clause (λ (p : Loc). not (lt_z envelope.high p.y)) points to c.partition_point-to.ensures.partitioned (high_parts points envelope.high (heights_rise points c.requires.sorted)) (λ a r f' k. search rules) in
+    let adds = subst (λ (old : List ℕ). AddsWithin envelope points (IsFromTo from to) old found) c.new-places.ensures.items c.in_ok-add_from_to.ensures in
+    subst (AreAllWithin envelope points) (sym (dedup_is _ sorted c.dedup.new.self.items c.dedup.ensures.filtered)) (all_within envelope points from to low.0 high.1 found sorted adds c.sort_unstable.ensures.permutation c.sort_unstable.ensures.sorted)
