@@ -7,20 +7,18 @@ use Rattle.std.specs.List.{flat_map}
 use Rattle.std.proofs.lemmas.List.{append_assoc, length-append, drop_more, get_or_default, set-append_left, set-append_right, set_split, take-append-drop}
 use Rattle.std.proofs.lemmas.List.Concat.{flat_map-append, get_or-flat_map}
 use Rattle.std.proofs.lemmas.List.Edits.{get_or-insert_below, insert-append_left, insert-append_right, remove-append_left, remove-append_right}
+use Rattle.chunked_list.specs.Starts.{IsEnd}
 
 -- a place in one of them, and how far in
 abbrev IsIn : {X C : Type 0} → (C → List X) → List C → ℕ → ℕ → ℕ → C → Type 0
 IsIn f cs place i at c = (i < length cs) × (c ≡ get_or cs i c) × (place ≡ length (flat_map f (take i cs)) + at) × (at < length (f c))
 
--- the one that was looked for in a list that is this one
-pub found : {X C : Type 0} (f : C → List X) (ds cs : List C) → ds ≡ cs → (place i before : ℕ) (c : C) → i < length ds →
-    before ≡ length (flat_map f (take i ds)) → (0 < place + 1 → before < place + 1) →
-    ((d : C) → place + 1 - before ≤ length (f (get_or ds i d))) → c ≡ get_or cs i c → IsIn f cs place i (place - before) c
-found f ds cs same place i before c inside mark some reach is =
-    let marked : before ≡ length (flat_map f (take i cs)) = subst (λ xs. before ≡ length (flat_map f (take i xs))) same mark in
-    let long : place + 1 - before ≤ length (f c) = subst (λ y. place + 1 - before ≤ length (f y)) (ap (λ xs. get_or xs i c) same ∙ sym is) (reach c) in
-    let below : before < place + 1 = some (omega arith) in
-    (subst (λ xs. i < length xs) same inside, is, omega arith, omega arith)
+-- the item at a place is the last of the first ones, which end there
+pub found : {X C : Type 0} (f : C → List X) (cs : List C) (place i within : ℕ) (c : C) → IsEnd f cs i within (place + 1) → c ≡ get_or cs i c → IsIn f cs place i (within - 1) c
+found f cs place i within c end is =
+    let own : 0 < within = end.some (omega arith) in
+    let reach : within ≤ length (f c) = subst (λ y. within ≤ length (f y)) (sym is) (end.reach c) in
+    (end.inside, is, omega (arith, end.front), omega arith)
 
 pub item-at : {X C : Type 0} (f : C → List X) (cs : List C) (place i at : ℕ) (c : C) (x d : X) → IsIn f cs place i at c →
     x ≡ get_or (f c) at x → x ≡ get_or (flat_map f cs) place d
@@ -47,20 +45,19 @@ same-set f cs i b c inside is same =
     parts-set f cs i c inside ∙ ap (λ xs. flat_map f (take i cs) ++ (xs ++ flat_map f (drop (suc i) cs))) same
     ∙ sym (parts f cs i b inside is)
 
-pub insert-set : {X C : Type 0} (f : C → List X) (cs : List C) (place i before : ℕ) (b c : C) (x : X) → i < length cs →
-    b ≡ get_or cs i b → before ≡ length (flat_map f (take i cs)) → before ≤ place → ((d : C) → place - before ≤ length (f (get_or cs i d))) →
-    f c ≡ insert (f b) (place - before) x → flat_map f (set cs i c) ≡ insert (flat_map f cs) place x
-insert-set f cs place i before b c x inside is mark below long new =
-    let at = place - before in
+pub insert-set : {X C : Type 0} (f : C → List X) (cs : List C) (place i within : ℕ) (b c : C) (x : X) → IsEnd f cs i within place → b ≡ get_or cs i b →
+    f c ≡ insert (f b) within x → flat_map f (set cs i c) ≡ insert (flat_map f cs) place x
+insert-set f cs place i within b c x end is new =
     let front = flat_map f (take i cs) in
     let back = flat_map f (drop (suc i) cs) in
-    let reach : at ≤ length (f b) = subst (λ y. at ≤ length (f y)) (sym is) (long b) in
-    let there : place - length front ≡ at = omega arith in
-    let within : insert (f b ++ back) at x ≡ insert (f b) at x ++ back = insert-append_left (f b) back at x reach in
+    let count = end.front in
+    let reach : within ≤ length (f b) = subst (λ y. within ≤ length (f y)) (sym is) (end.reach b) in
+    let there : place - length front ≡ within = omega arith in
+    let inside : insert (f b ++ back) within x ≡ insert (f b) within x ++ back = insert-append_left (f b) back within x reach in
     let whole : insert (front ++ (f b ++ back)) place x ≡ front ++ insert (f b ++ back) (place - length front) x =
     insert-append_right front (f b ++ back) (length front) place x refl (omega arith) in
-    parts-set f cs i c inside ∙ ap (λ xs. front ++ (xs ++ back)) new
-    ∙ sym (ap (λ xs. insert xs place x) (parts f cs i b inside is) ∙ whole ∙ ap (λ n. front ++ insert (f b ++ back) n x) there ∙ ap (λ xs. front ++ xs) within)
+    parts-set f cs i c end.inside ∙ ap (λ xs. front ++ (xs ++ back)) new
+    ∙ sym (ap (λ xs. insert xs place x) (parts f cs i b end.inside is) ∙ whole ∙ ap (λ n. front ++ insert (f b ++ back) n x) there ∙ ap (λ xs. front ++ xs) inside)
 
 pub remove-set : {X C : Type 0} (f : C → List X) (cs : List C) (place i at : ℕ) (b c : C) → IsIn f cs place i at b →
     f c ≡ remove (f b) at → flat_map f (set cs i c) ≡ remove (flat_map f cs) place
@@ -95,13 +92,18 @@ same-parted f (d ∷ cs) (suc i) b c u inside is parted = ap (λ xs. f d ++ xs) 
 same-parted f [] zero b c u inside is parted = absurd (not-suc-le-zero inside)
 same-parted f [] (suc i) b c u inside is parted = absurd (not-suc-le-zero inside)
 
--- the item in the middle goes over to a new list behind
+-- a new list behind one of them leaves it where it is
+pub before-new : {X C : Type 0} (f : C → List X) (cs new : List C) (i : ℕ) (b d u : C) → i < length cs → new ≡ insert cs (i + 1) u → b ≡ get_or cs i b → d ≡ get_or new i d → d ≡ b
+before-new f cs new i b d u inside put is found =
+    let below : get_or (insert cs (i + 1) u) i d ≡ get_or cs i d = get_or-insert_below cs (i + 1) u d i (omega arith) (omega arith) in
+    found ∙ ap (λ xs. get_or xs i d) put ∙ below ∙ get_or_default cs i d b inside ∙ sym is
+
+-- the items in the middle go over to a new list behind
 pub same-split : {X C : Type 0} (f : C → List X) (cs new : List C) (i half : ℕ) (b d c u : C) → i < length cs → new ≡ insert cs (i + 1) u →
     b ≡ get_or cs i b → d ≡ get_or new i d → f c ≡ take half (f d) → f u ≡ drop half (f b) → flat_map f (set new i c) ≡ flat_map f cs
 same-split f cs new i half b d c u inside put is found lower upper =
     let next : i + 1 ≡ suc i = omega arith in
-    let below : get_or (insert cs (i + 1) u) i d ≡ get_or cs i d = get_or-insert_below cs (i + 1) u d i (omega arith) (omega arith) in
-    let same : d ≡ b = found ∙ ap (λ xs. get_or xs i d) put ∙ below ∙ get_or_default cs i d b inside ∙ sym is in
+    let same = before-new f cs new i b d u inside put is found in
     let cut : f b ≡ f c ++ f u = sym (take-append-drop half (f b)) ∙ ap (λ xs. xs ++ drop half (f b)) (sym (lower ∙ ap (λ y. take half (f y)) same)) ∙ ap (λ xs. f c ++ xs) (sym upper) in
     ap (λ xs. flat_map f (set xs i c)) (put ∙ ap (λ n. insert cs n u) next) ∙ same-parted f cs i b c u inside is cut
 
@@ -111,12 +113,3 @@ pub same-dropped : {X C : Type 0} (f : C → List X) (cs : List C) (i : ℕ) (c 
 same-dropped f cs i c inside is none =
     flat_map-append f (take i cs) (drop (suc i) cs)
     ∙ sym (parts f cs i c inside is ∙ ap (λ xs. flat_map f (take i cs) ++ (xs ++ flat_map f (drop (suc i) cs))) none)
-
--- what stands before one of them, and it, is no longer than all
-pub within-all : {X C : Type 0} (f : C → List X) (cs : List C) (i before : ℕ) (d : C) → i < length cs → before ≡ length (flat_map f (take i cs)) →
-    before + length (f (get_or cs i d)) ≤ length (flat_map f cs)
-within-all f cs i before d inside mark =
-    let c = get_or cs i d in
-    let back = flat_map f (drop (suc i) cs) in
-    let whole = ap length (parts f cs i c inside (get_or_default cs i d c inside)) ∙ length-append (flat_map f (take i cs)) (f c ++ back) ∙ ap (λ n. length (flat_map f (take i cs)) + n) (length-append (f c) back) in
-    omega arith

@@ -1,3 +1,6 @@
+mod Changed
+mod Ends
+mod Fronts
 mod Joined
-mod Searched
 mod Kept
+mod Searched

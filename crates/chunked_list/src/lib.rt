@@ -5,7 +5,7 @@
 
 mod chunks;
 mod list;
-mod marks;
 mod searching;
+mod starts;
 
 pub use list::ChunkedList;

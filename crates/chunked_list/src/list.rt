@@ -4,10 +4,9 @@ ghost use Rattle.std.specs.Prelude.{◌≡◌, ◌==◌, ◌<◌, ◌≤◌, Lis
 ghost use Rattle.std.specs.List.{flat_map};
 ghost use Rattle.std.specs.List.Sorted.{IsPartitionedBy, IsPartitionPoint};
 ghost use Rattle.std.specs.Fn.{FnReturnsAt};
-ghost use Rattle.chunked_list.specs.Marked.{IsMark};
+ghost use Rattle.chunked_list.specs.Starts.{starts_from};
 
 use crate::chunks::{item, put_in, put_over, take_out};
-use crate::marks::Mark;
 use crate::searching::{Search, passes};
 use std::alloc::{AllocError as OutOfMemory, Global};
 use std::marker::Model;
@@ -17,9 +16,11 @@ use std::marker::Model;
 pub struct ChunkedList<T> {
     alloc: Global,
     chunks: Vec<Vec<T>>,
-    /// The chunk that changed last: places are looked for from there. That it tells the truth is proved; that it is near is only speed.
-    mark: Mark,
+    /// How many items stand before each chunk.
+    starts: Vec<usize>,
     len: usize,
+    /// The chunk that changed last: places are looked for there first. Only speed rests on it.
+    near: usize,
     /// Where an item was last put in or taken out. Only speed rests on it.
     changed: usize,
 }
@@ -30,7 +31,7 @@ impl<T> Model for ChunkedList<T> {
     ghost view = { λ l. flat_map (λ c. c.items) l.chunks.items };
 
     ghost invariant = { λ l. (length (flat_map (λ c. c.items) l.chunks.items) ≡ l.len)
-        × IsMark (λ c. c.items) l.chunks.items l.mark.chunk l.mark.before };
+        × (l.starts.items ≡ starts_from (λ c. c.items) 0 l.chunks.items) };
 }
 
 impl<T: Copy> ChunkedList<T> {
@@ -41,8 +42,9 @@ impl<T: Copy> ChunkedList<T> {
         ChunkedList {
             alloc,
             chunks: Vec::new(alloc),
-            mark: Mark::first(),
+            starts: Vec::new(alloc),
             len: 0,
+            near: 0,
             changed: 0,
         }
     }
@@ -68,7 +70,7 @@ impl<T: Copy> ChunkedList<T> {
     {
         let inside = place < self.len;
         prove!(inside);
-        item(&self.chunks, self.mark, place)
+        item(&self.chunks, &self.starts, self.near, place)
     }
 
     /// Puts an item in before the one at a place, or at the end. The error is out of memory.
@@ -80,7 +82,14 @@ impl<T: Copy> ChunkedList<T> {
         let Some(len) = self.len.checked_add(1) else {
             return Err(OutOfMemory);
         };
-        match put_in(self.alloc, &mut self.chunks, &mut self.mark, place, item) {
+        match put_in(
+            self.alloc,
+            &mut self.chunks,
+            &mut self.starts,
+            &mut self.near,
+            place,
+            item,
+        ) {
             Ok(()) => {
                 self.len = len;
                 self.changed = place;
@@ -96,7 +105,7 @@ impl<T: Copy> ChunkedList<T> {
         ensures { self.new ≡ set self.old place item }
     {
         self.changed = place;
-        put_over(&mut self.chunks, &mut self.mark, place, item);
+        self.near = put_over(&mut self.chunks, &self.starts, self.near, place, item);
     }
 
     /// Takes the item at a place out.
@@ -107,7 +116,7 @@ impl<T: Copy> ChunkedList<T> {
     {
         self.len -= 1;
         self.changed = place;
-        take_out(&mut self.chunks, &mut self.mark, place)
+        take_out(&mut self.chunks, &mut self.starts, &mut self.near, place)
     }
 
     /// Where an item was last put in or taken out: a place to begin a search at. Only speed rests on it.
@@ -135,7 +144,13 @@ impl<T: Copy> ChunkedList<T> {
             → told ≡ p x) → IsPartitionedBy p self.now
             → IsPartitionPoint (λ x. p x ≡ true) (λ x. p x ≡ false) self.now result }
     {
-        Search::near(&self.chunks, self.len, self.mark, near).point(near, &test)
+        let search = Search {
+            chunks: &self.chunks,
+            starts: &self.starts,
+            len: self.len,
+            near: self.near,
+        };
+        search.near(near).point(near, &test)
     }
 
     /// Takes out the items that don't pass a test.

@@ -3,22 +3,25 @@ ghost use Rattle.std.specs.Prelude.{IfSome, ◌+◌, ◌^◌, ◌≡◌, ◌<◌
 ghost use Rattle.std.specs.List.{flat_map};
 ghost use Rattle.std.specs.List.Sorted.{IsPartitionedBy, IsPartitionPoint};
 ghost use Rattle.std.specs.Fn.{FnReturnsAt};
-ghost use Rattle.chunked_list.specs.Marked.{IsMark};
 ghost use Rattle.chunked_list.specs.Parted.{IsParted};
+ghost use Rattle.chunked_list.specs.Starts.{starts_from};
 
 use crate::chunks::item;
-use crate::marks::Mark;
+use crate::starts::end_of;
 use std::marker::Model;
 
 /// How many steps from a place are tried before all items are searched.
 const STEPS: usize = 4;
 
-/// The items of a list in chunks, and the mark that they are looked for from.
+/// The items of a list in chunks, and the chunk in which they are looked for first.
 #[derive(Drop)]
 pub(crate) struct Search<'a, T> {
-    chunks: &'a [Vec<T>],
-    len: usize,
-    mark: Mark,
+    pub(crate) chunks: &'a [Vec<T>],
+    /// How many items stand before each chunk.
+    pub(crate) starts: &'a [usize],
+    pub(crate) len: usize,
+    /// Only speed rests on it.
+    pub(crate) near: usize,
 }
 
 impl<'a, T> Model for Search<'a, T> {
@@ -27,25 +30,32 @@ impl<'a, T> Model for Search<'a, T> {
     ghost view = { λ s. flat_map (λ c. c.items) s.chunks.now };
 
     ghost invariant = { λ s. (length (flat_map (λ c. c.items) s.chunks.now) ≡ s.len)
-        × IsMark (λ c. c.items) s.chunks.now s.mark.chunk s.mark.before };
+        × (s.starts.now ≡ starts_from (λ c. c.items) 0 s.chunks.now) };
 }
 
 impl<'a, T: Copy> Search<'a, T> {
-    /// The items of chunks, looked for from near a place on.
-    pub(crate) fn near(chunks: &'a [Vec<T>], len: usize, mark: Mark, place: usize) -> Self
-        requires len { length (flat_map (λ c. c.items) chunks.now) ≡ len }
-        requires mark { IsMark (λ c. c.items) chunks.now mark.chunk mark.before }
-        ensures { result ≡ flat_map (λ c. c.items) chunks.now }
+    /// The same items, looked for first in a chunk.
+    fn beside(&self, near: usize) -> Search<'a, T>
+        ensures { result ≡ self.now }
     {
-        let count = place.min(len);
-        if count == 0 {
-            return Search { chunks, len, mark };
-        }
         Search {
-            chunks,
-            len,
-            mark: mark.locate(chunks, count),
+            chunks: self.chunks,
+            starts: self.starts,
+            len: self.len,
+            near,
         }
+    }
+
+    /// The same items, looked for first in the chunk where so many end.
+    pub(crate) fn near(&self, count: usize) -> Search<'a, T>
+        ensures { result ≡ self.now }
+    {
+        let count = count.min(self.len);
+        if count == 0 {
+            return self.beside(self.near);
+        }
+        let end = end_of(self.chunks, self.starts, self.near, count);
+        self.beside(end.chunk)
     }
 
     /// The item at a place.
@@ -55,7 +65,7 @@ impl<'a, T: Copy> Search<'a, T> {
     {
         let inside = place < self.len;
         prove!(inside);
-        item(self.chunks, self.mark, place)
+        item(self.chunks, self.starts, self.near, place)
     }
 
     /// Where the items that pass end, looked for near a place first.
@@ -165,23 +175,19 @@ impl<'a, T: Copy> Search<'a, T> {
         requires { F.IsAlwaysCallable test.now }
         ensures { result ≡ self.now }
     {
-        Search {
-            chunks: self.chunks,
-            len: self.len,
-            mark: end_of_passing(self.chunks, self.mark, test),
-        }
+        self.beside(chunks_begun(self.chunks, test).saturating_sub(1))
     }
 
-    /// Where those that pass seem to end, by the marked chunk. Only speed rests on it.
+    /// Where those that pass seem to end, by the chunk looked at first. Only speed rests on it.
     fn guess<F: Fn(&T) -> bool>(&self, test: &F) -> usize
         requires { F.IsAlwaysCallable test.now }
         ensures { result ≤ length self.now }
     {
-        if self.mark.chunk >= self.chunks.len() {
+        if self.near >= self.chunks.len() {
             return self.len;
         }
-        let inside = point_in(&self.chunks[self.mark.chunk], test);
-        self.mark.before.saturating_add(inside).min(self.len)
+        let inside = point_in(&self.chunks[self.near], test);
+        self.starts[self.near].saturating_add(inside).min(self.len)
     }
 
     /// Whether the item at a place passes.
@@ -225,20 +231,6 @@ impl<'a, T: Copy> Search<'a, T> {
         }
         !self.passes_at(test, place)
     }
-}
-
-/// The last chunk that begins with an item that passes, if these stand first; the first chunk, if none does.
-fn end_of_passing<T, F: Fn(&T) -> bool>(chunks: &[Vec<T>], near: Mark, test: &F) -> Mark
-    requires mark { IsMark (λ c. c.items) chunks.now near.chunk near.before }
-    requires fits { length (flat_map (λ c. c.items) chunks.now) < 2 ^ 64 }
-    requires test { F.IsAlwaysCallable test.now }
-    ensures { IsMark (λ c. c.items) chunks.now result.chunk result.before }
-{
-    let begun = chunks_begun(chunks, test);
-    if begun == 0 {
-        return Mark::first();
-    }
-    near.to_chunk(chunks, begun - 1)
 }
 
 /// How many chunks begin with an item that passes, if these stand first.
