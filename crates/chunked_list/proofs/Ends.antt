@@ -7,7 +7,7 @@ use Rattle.std.specs.List.Sorted.{IsNonDecreasingBy, IsPartitionPoint}
 use Rattle.std.proofs.lemmas.Bool.{cases_lt, ltb-false}
 use Rattle.std.proofs.lemmas.Bool.Decides.{Decides-ltb}
 use Rattle.std.proofs.lemmas.List.{get_or-drop, length-drop, take_all}
-use Rattle.chunked_list.specs.Starts.{IsEnd, starts_from}
+use Rattle.chunked_list.specs.Starts.{ItemsEnd, starts_from}
 use Rattle.chunked_list.proofs.Fronts.{front-rises, front-within, length-starts, next-front, start-at}
 
 module _ {X C : Type 0} (f : C → List X) (cs : List C) (ss : List ℕ) (starts : ss ≡ starts_from f 0 cs) where
@@ -24,16 +24,16 @@ module _ {X C : Type 0} (f : C → List X) (cs : List C) (ss : List ℕ) (starts
   whole-front : (i : ℕ) → length cs ≤ i → length (flat_map f (take i cs)) ≡ length (flat_map f cs)
   whole-front i behind = ap (λ ds. length (flat_map f ds)) (take_all i cs behind)
 
-  pub end_here : (i count : ℕ) → i < length cs → get_or ss i 0 < count → ((d : C) → count - get_or ss i 0 ≤ length (f (get_or cs i d))) → IsEnd f cs i (count - get_or ss i 0) count
+  pub end_here : (i count : ℕ) → i < length cs → get_or ss i 0 < count → ((d : C) → count - get_or ss i 0 ≤ length (f (get_or cs i d))) → ItemsEnd f cs i (count - get_or ss i 0) count
   end_here i count inside below reach =
       record { inside = inside; front = omega (arith, start i 0 inside); some = λ more. omega arith; reach = reach }
 
   -- no item is the first of none
-  end_of_none : (count : ℕ) → count ≡ 0 → 0 < length cs → IsEnd f cs 0 (count - get_or ss 0 0) count
+  end_of_none : (count : ℕ) → count ≡ 0 → 0 < length cs → ItemsEnd f cs 0 (count - get_or ss 0 0) count
   end_of_none count none some =
       record { inside = some; front = omega (arith, start 0 0 some, none); some = λ more. absurd (omega arith); reach = λ d. omega (arith, none) }
 
-  pub end_by_halves : (count point : ℕ) → 0 < length cs → count ≤ length (flat_map f cs) → IsPartitionPoint (λ s. nat_lt s count ≡ true) (λ s. nat_lt s count ≡ false) ss point → point ≤ length ss → IsEnd f cs (point - 1) (count - get_or ss (point - 1) 0) count
+  pub end_by_halves : (count point : ℕ) → 0 < length cs → count ≤ length (flat_map f cs) → IsPartitionPoint (λ s. nat_lt s count ≡ true) (λ s. nat_lt s count ≡ false) ss point → point ≤ length ss → ItemsEnd f cs (point - 1) (count - get_or ss (point - 1) 0) count
   end_by_halves count zero some within parted inside =
       let first : count ≤ get_or ss 0 0 = ltb-false (get_or ss 0 0) count (parted.1 0 0 (omega arith) (omega (arith, long))) in
       end_of_none count (omega (arith, first, start 0 0 some)) some
@@ -49,9 +49,9 @@ module _ {X C : Type 0} (f : C → List X) (cs : List C) (ss : List ℕ) (starts
       (cases_lt (suc i) (length cs))
       in
       let same : i ≡ suc i - 1 = omega arith in
-      subst (λ j. IsEnd f cs j (count - get_or ss j 0) count) same (end_here i count here below reach)
+      subst (λ j. ItemsEnd f cs j (count - get_or ss j 0) count) same (end_here i count here below reach)
 
-  pub start_below : (i count : ℕ) → IsEnd f cs i (count - get_or ss i 0) count → get_or ss i 0 ≤ count
+  pub start_below : (i count : ℕ) → ItemsEnd f cs i (count - get_or ss i 0) count → get_or ss i 0 ≤ count
   start_below i count end = omega (arith, start i 0 end.inside, end.front)
 
   -- ---- one item more or fewer
@@ -60,7 +60,7 @@ module _ {X C : Type 0} (f : C → List X) (cs : List C) (ss : List ℕ) (starts
   starts_fit fits k d inside = omega (arith, long, start k d (omega (arith, long)), front-within f cs k)
 
   -- an item stands before each list behind one that has an item
-  pub starts_behind : (i within count : ℕ) (b : C) → IsEnd f cs i within count → 0 < within → All (λ s. 0 < s) (drop (i + 1) ss)
+  pub starts_behind : (i within count : ℕ) (b : C) → ItemsEnd f cs i within count → 0 < within → All (λ s. 0 < s) (drop (i + 1) ss)
   starts_behind i within count b end some k d inside =
       let behind : i + 1 + k < length ss = omega (arith, inside, length-drop (i + 1) ss) in
       let is = start (i + 1 + k) d (omega (arith, long)) in

@@ -7,14 +7,14 @@ use Rattle.std.specs.List.{flat_map}
 use Rattle.std.proofs.lemmas.List.{append_assoc, length-append, drop_more, get_or_default, set-append_left, set-append_right, set_split, take-append-drop}
 use Rattle.std.proofs.lemmas.List.Concat.{flat_map-append, get_or-flat_map}
 use Rattle.std.proofs.lemmas.List.Edits.{get_or-insert_below, insert-append_left, insert-append_right, remove-append_left, remove-append_right}
-use Rattle.chunked_list.specs.Starts.{IsEnd}
+use Rattle.chunked_list.specs.Starts.{ItemsEnd}
 
 -- a place in one of them, and how far in
 abbrev IsIn : {X C : Type 0} → (C → List X) → List C → ℕ → ℕ → ℕ → C → Type 0
 IsIn f cs place i at c = (i < length cs) × (c ≡ get_or cs i c) × (place ≡ length (flat_map f (take i cs)) + at) × (at < length (f c))
 
 -- the item at a place is the last of the first ones, which end there
-pub found : {X C : Type 0} (f : C → List X) (cs : List C) (place i within : ℕ) (c : C) → IsEnd f cs i within (place + 1) → c ≡ get_or cs i c → IsIn f cs place i (within - 1) c
+pub found : {X C : Type 0} (f : C → List X) (cs : List C) (place i within : ℕ) (c : C) → ItemsEnd f cs i within (place + 1) → c ≡ get_or cs i c → IsIn f cs place i (within - 1) c
 found f cs place i within c end is =
     let own : 0 < within = end.some (omega arith) in
     let reach : within ≤ length (f c) = subst (λ y. within ≤ length (f y)) (sym is) (end.reach c) in
@@ -45,7 +45,7 @@ same-set f cs i b c inside is same =
     parts-set f cs i c inside ∙ ap (λ xs. flat_map f (take i cs) ++ (xs ++ flat_map f (drop (suc i) cs))) same
     ∙ sym (parts f cs i b inside is)
 
-pub insert-set : {X C : Type 0} (f : C → List X) (cs : List C) (place i within : ℕ) (b c : C) (x : X) → IsEnd f cs i within place → b ≡ get_or cs i b →
+pub insert-set : {X C : Type 0} (f : C → List X) (cs : List C) (place i within : ℕ) (b c : C) (x : X) → ItemsEnd f cs i within place → b ≡ get_or cs i b →
     f c ≡ insert (f b) within x → flat_map f (set cs i c) ≡ insert (flat_map f cs) place x
 insert-set f cs place i within b c x end is new =
     let front = flat_map f (take i cs) in

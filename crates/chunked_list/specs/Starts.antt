@@ -8,7 +8,7 @@ starts_from items n [] = []
 starts_from items n (c ∷ cs) = n ∷ starts_from items (n + length (items c)) cs
 
 -- The first items, so many of them, end in a chunk: so many of them are its own, one at least, if there are any.
-pub record IsEnd {X C : Type 0} (items : C → List X) (chunks : List C) (chunk within count : ℕ) : Type 0 where
+pub record ItemsEnd {X C : Type 0} (items : C → List X) (chunks : List C) (chunk within count : ℕ) : Type 0 where
   pub inside : chunk < length chunks
   pub front : count ≡ length (flat_map items (take chunk chunks)) + within
   pub some : 0 < count → 0 < within

@@ -1,7 +1,7 @@
 //! Chunks one after the other.
 ghost use Rattle.std.specs.Prelude.{◌≡◌, ◌<◌, ◌≤◌, ◌+◌, ◌^◌, insert, remove, length, set, slice_index_or, IfOk, OnErr, OnOk};
 ghost use Rattle.std.specs.List.{flat_map};
-ghost use Rattle.chunked_list.specs.Starts.{IsEnd, starts_from};
+ghost use Rattle.chunked_list.specs.Starts.{ItemsEnd, starts_from};
 
 use crate::starts::{End, end_of, lower, raise};
 use std::alloc::{AllocError as OutOfMemory, Global};
@@ -145,7 +145,7 @@ fn end_with_room<T: Copy>(
     ensures starts { starts.new.items ≡ starts_from (λ c. c.items) 0 chunks.new.items }
     ensures same { flat_map (λ c. c.items) chunks.new.items
         ≡ flat_map (λ c. c.items) chunks.old.items }
-    ensures end { IfOk result (λ end. IsEnd (λ c. c.items) chunks.new.items end.chunk end.within
+    ensures end { IfOk result (λ end. ItemsEnd (λ c. c.items) chunks.new.items end.chunk end.within
         count) }
 {
     if chunks.is_empty() {

@@ -1,7 +1,7 @@
 //! How many items stand before each chunk, and where so many items end.
 ghost use Rattle.std.specs.Prelude.{◌≡◌, ◌<◌, ◌≤◌, ◌+◌, ◌-◌, ◌++◌, ◌^◌, All, drop, length, map, slice_index_or, take, true};
 ghost use Rattle.std.specs.List.{flat_map};
-ghost use Rattle.chunked_list.specs.Starts.{IsEnd, starts_from};
+ghost use Rattle.chunked_list.specs.Starts.{ItemsEnd, starts_from};
 
 /// Where the first items of a list end: in which chunk, and how many of its items are among them.
 #[derive(Clone, Copy)]
@@ -13,7 +13,7 @@ pub(crate) struct End {
 /// Whether so many items end in a chunk, one of them its own.
 fn ends_in<T>(chunks: &[Vec<T>], starts: &[usize], chunk: usize, count: usize) -> bool
     requires { starts.now ≡ starts_from (λ c. c.items) 0 chunks.now }
-    ensures { result ≡ true → IsEnd (λ c. c.items) chunks.now chunk
+    ensures { result ≡ true → ItemsEnd (λ c. c.items) chunks.now chunk
         (count - slice_index_or starts.now chunk 0) count }
 {
     if chunk >= chunks.len() {
@@ -33,7 +33,7 @@ fn chunk_by_halves<T>(chunks: &[Vec<T>], starts: &[usize], count: usize) -> usiz
     requires some { 0 < length chunks.now }
     requires starts { starts.now ≡ starts_from (λ c. c.items) 0 chunks.now }
     requires within { count ≤ length (flat_map (λ c. c.items) chunks.now) }
-    ensures { IsEnd (λ c. c.items) chunks.now result
+    ensures { ItemsEnd (λ c. c.items) chunks.now result
         (count - slice_index_or starts.now result 0) count }
 {
     let fewer = starts.partition_point(|start| *start < count);
@@ -47,7 +47,7 @@ pub(crate) fn end_of<T>(chunks: &[Vec<T>], starts: &[usize], near: usize, count:
     requires some { 0 < length chunks.now }
     requires starts { starts.now ≡ starts_from (λ c. c.items) 0 chunks.now }
     requires within { count ≤ length (flat_map (λ c. c.items) chunks.now) }
-    ensures { IsEnd (λ c. c.items) chunks.now result.chunk result.within count }
+    ensures { ItemsEnd (λ c. c.items) chunks.now result.chunk result.within count }
 {
     if ends_in(chunks, starts, near, count) {
         return End {

@@ -1,7 +1,7 @@
 -- Which rings are kept: that this is settled, how it is found in order of rank, and that kept rings don't conflict.
-use Rattle.std.proofs.Common.{◌≡◌, ℕ, ℤ, suc, ◌+◌, ◌<◌, Bool, true, false, cond, not, ◌&&◌, ◌||◌, if◌then◌else◌, List, [], ◌∷◌, ◌++◌, filter, All, AllPairs, Contains, length, take, drop, get_or, Option, Some, refl, sym, ap, subst, ◌∙◌, arith, ⊎_elim}
+use Rattle.std.proofs.Common.{◌≡◌, ℕ, ℤ, suc, ◌+◌, ◌<◌, Bool, true, false, not, ◌&&◌, ◌||◌, if◌then◌else◌, List, [], ◌∷◌, ◌++◌, filter, All, AllPairs, Contains, length, take, drop, get_or, Option, Some, refl, sym, ap, subst, ◌∙◌, ⊎_elim}
 use Rattle.std.specs.Prelude.{is_some}
-use Rattle.std.specs.List.{cons_option, filter_map, flat_map, list_any, slice_get}
+use Rattle.std.specs.List.{cons_option, list_any, slice_get}
 use Rattle.std.specs.declared.cmp.Ordering.{Ordering}
 use Rattle.std.specs.declared.cmp.Ordering.TheVariants.{Less, Equal, Greater}
 use Rattle.std.specs.Ordering.{int_cmp, is_eq, ordering_reverse}
@@ -25,10 +25,10 @@ use Rattle.coast_sides.specs.Rounds.{conflicts_itself}
 use Rattle.coast_sides.specs.Segments.{all_segments, segments_round}
 use Rattle.coast_sides.specs.Sorting.{conflicts_with}
 use Rattle.coast_sides.proofs.Conflicts.{none_from}
-use Rattle.coast_sides.proofs.ListSteps.{taken_more}
+use Rattle.coast_sides.proofs.ListSteps.{or_false, taken_more}
 use Rattle.coast_sides.proofs.OneChoice.{choice, choice_chooses, choice_one}
-use Rattle.coast_sides.proofs.RingRanks.{less_outranks, level_names, name_cmp, not_both, not_itself, one_by_name, outranks_trans, ring_cmp, ring_cmp_total}
-use Rattle.coast_sides.proofs.SomeMember.{any_from, any_same, filter_alike, filter_has, filter_map_from, flat_map_from, flat_map_has, kept_is, member_cases, pairs_after, pairs_before, same_truth, some_passes}
+use Rattle.coast_sides.proofs.RingRanks.{less_outranks, level_names, not_both, not_itself, one_by_name, outranks_trans, ring_cmp, ring_cmp_total}
+use Rattle.coast_sides.proofs.SomeMember.{any_from, filter_alike, filter_has, filter_map_from, flat_map_from, flat_map_has, kept_is, member_cases, pairs_after, pairs_before, same_truth, some_passes}
 
 -- ---- there is one choice
 
@@ -164,10 +164,6 @@ module _ (symmetric : ConflictIsSymmetric) (rings : List CoastRing) (up : NamesO
 
   named_one : (ring : CoastRing) (n : ℤ) (b : Bool) → list_any (is_named n) (if b then ring ∷ [] else []) ≡ (b && is_named n ring)
   named_one ring n true = or_false (is_named n ring)
-    where
-      or_false : (b : Bool) → (b || false) ≡ b
-      or_false true = refl
-      or_false false = refl
   named_one ring n false = refl
 
   flat_more : (xs ys : List CoastRing) → all_segments (xs ++ ys) ≡ all_segments xs ++ all_segments ys

@@ -3,6 +3,7 @@ use Rattle.std.proofs.Common.{◌≡◌, ℕ, ◌+◌, ◌<◌, Bool, true, fals
 use Rattle.std.specs.declared.alloc.Global.{Global}
 use Rattle.std.specs.List.{list_any}
 use Rattle.std.specs.Option.{unwrap_or}
+use Rattle.std.proofs.Math.Bool.{or_assoc}
 use Rattle.std.proofs.lemmas.List.Folds.{list_any-append}
 use Rattle.osm_lattice.specs.declared.seg.Seg.{Seg}
 use Rattle.osm_lattice.specs.OrderLaws.{SegmentOrderTellsApart}
@@ -37,17 +38,12 @@ foe_added exact seg foe old mid new v w held more out back s t = by (is_same_seg
         ap (λ o. known_in o t) (back s ∙ (ap (λ b. cond b (Some w) (mid s)) e ∙ (out s ∙ ap (λ b. cond b None (old s)) e)))
         ∙ sym (or_false (known_in (old s) t))
 
-or_thrice : (a b c : Bool) → ((a || b) || c) ≡ (a || (b || c))
-or_thrice true b c = refl
-or_thrice false b c = refl
-
 -- both segments of one more pair
 pub pair_added : (s t : Seg) (pairs : List Pair) (i : ℕ) (p : Pair) (old mid new : Bool) → i < length pairs → p ≡ get_or pairs i p → old ≡ list_any (are_paired s t) (take i pairs)
     → mid ≡ (old || (is_same_segment p.first s && is_same_segment p.second t)) → new ≡ (mid || (is_same_segment p.second s && is_same_segment p.first t)) → new ≡ list_any (are_paired s t) (take (i + 1) pairs)
 pair_added s t pairs i p old mid new h is inv one two =
-    let forth = is_same_segment p.first s && is_same_segment p.second t in
     let back = is_same_segment p.second s && is_same_segment p.first t in
-    any_step (are_paired s t) pairs i p old new h is inv (two ∙ (ap (λ b. b || back) one ∙ or_thrice old forth back))
+    any_step (are_paired s t) pairs i p old new h is inv (two ∙ (ap (λ b. b || back) one ∙ or_assoc old forth back))
 
 put_in : (b old : Bool) → cond b true old ≡ (old || b)
 put_in true true = refl
@@ -63,7 +59,7 @@ one_added s first segs i seg old new h is inv after =
     after
     ∙ (put_in (is_same_segment seg s) old
     ∙ (ap (λ b. b || is_same_segment seg s) inv
-    ∙ (or_thrice first (list_any test (take i segs)) (is_same_segment seg s)
+    ∙ (or_assoc first (list_any test (take i segs)) (is_same_segment seg s)
     ∙ ap (λ b. first || b) (any_step test segs i seg (list_any test (take i segs)) (list_any test (take i segs) || is_same_segment seg s) h is refl refl))))
 
 -- the foes of a segment taken out

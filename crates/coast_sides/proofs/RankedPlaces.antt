@@ -1,5 +1,5 @@
 -- The places of rings in order of rank.
-use Rattle.std.proofs.Common.{◌≡◌, ℕ, zero, suc, ◌+◌, ◌<◌, true, List, [], ◌∷◌, length, map, All, AllPairs, Contains, Option, Some, get_or, min, refl, sym, ap, subst, ◌∙◌, arith, ⊎_elim}
+use Rattle.std.proofs.Common.{◌≡◌, ℕ, suc, ◌+◌, ◌<◌, true, List, [], ◌∷◌, length, map, All, AllPairs, Contains, Option, Some, get_or, min, refl, sym, ap, subst, ◌∙◌, arith, ⊎_elim}
 use Rattle.std.specs.List.{cons_option, enumerate_from, slice_get}
 use Rattle.std.specs.declared.cmp.Ordering.{Ordering}
 use Rattle.std.specs.declared.cmp.Ordering.TheVariants.{Less, Equal, Greater}
@@ -16,7 +16,7 @@ use Rattle.coast_sides.specs.declared.ranking.Rank.{Rank}
 use Rattle.coast_sides.specs.Choice.{outranks}
 use Rattle.coast_sides.specs.ChoiceSteps.{AreByRank, ring_rank, rings_at}
 use Rattle.coast_sides.specs.CutSorting.{NamesOfRingsRise}
-use Rattle.coast_sides.proofs.RingRanks.{less_outranks, level_names, name_at_less, name_cmp, ring_cmp, then_tied}
+use Rattle.coast_sides.proofs.RingRanks.{less_outranks, level_names, name_at_less, ring_cmp, then_tied}
 use Rattle.coast_sides.proofs.SomeMember.{filter_map_from, filter_map_has, first_member, later_member, map_from, map_has, member_cases, no_member}
 
 -- ---- the order of ranks tells them apart

@@ -270,8 +270,11 @@ module _ (exact : SegmentOrderTellsApart) (n k : ℕ) (steps first second : List
 pub either_first : (n k : ℕ) (first second : List StepAlong) → list_any (λ (s : StepAlong). list_any (λ (t : StepAlong). lies_between n s.place t.place k) first) second ≡ list_any (λ (s : StepAlong). list_any (λ (t : StepAlong). lies_between n s.place t.place k) second) first
 either_first n k first second = same_truth (list_any (λ (s : StepAlong). list_any (λ (t : StepAlong). lies_between n s.place t.place k) first) second) (list_any (λ (s : StepAlong). list_any (λ (t : StepAlong). lies_between n s.place t.place k) second) first) (turned first second) (turned second first)
   where
-    swapped : (a b : Bool) → (a || b) ≡ true → (b || a) ≡ true
-    swapped a b e = ⊎_elim (or_right b a) (or_left b a) (or_cases a b e)
+    swapped : (i j : ℕ) → lies_between n i j k ≡ true → lies_between n j i k ≡ true
+    swapped i j e =
+        let a = nat_lt i j && is_among_fewer n i j k in
+        let b = nat_lt j i && is_among_fewer n j i k in
+        ⊎_elim (or_right b a) (or_left b a) (or_cases a b e)
 
     turned : (first second : List StepAlong) → list_any (λ (s : StepAlong). list_any (λ (t : StepAlong). lies_between n s.place t.place k) first) second ≡ true → list_any (λ (s : StepAlong). list_any (λ (t : StepAlong). lies_between n s.place t.place k) second) first ≡ true
     turned first second e =
@@ -279,4 +282,4 @@ either_first n k first second = same_truth (list_any (λ (s : StepAlong). list_a
         let b = some_passes (λ (t : StepAlong). lies_between n a.item.place t.place k) first a.passes in
         any_from (λ (s : StepAlong). list_any (λ (t : StepAlong). lies_between n s.place t.place k) second) first b.item b.member
         (any_from (λ (t : StepAlong). lies_between n b.item.place t.place k) second a.item a.member
-        (swapped (nat_lt a.item.place b.item.place && is_among_fewer n a.item.place b.item.place k) (nat_lt b.item.place a.item.place && is_among_fewer n b.item.place a.item.place k) b.passes))
+        (swapped b.item.place a.item.place b.passes))

@@ -1,10 +1,10 @@
 -- Rings outrank one another: a strict order, in which two rings of different names aren't level.
-use Rattle.std.proofs.Common.{◌≡◌, ℕ, suc, ◌<◌, Bool, true, false, cond, ◌&&◌, ◌||◌, List, length, Contains, get_or, refl, sym, ap, subst, ◌∙◌, arith, ⊎_elim}
+use Rattle.std.proofs.Common.{◌≡◌, ℕ, ◌<◌, Bool, true, false, cond, ◌&&◌, ◌||◌, List, length, Contains, get_or, refl, sym, ap, ◌∙◌, ⊎_elim}
 use Rattle.std.specs.declared.cmp.Ordering.{Ordering}
 use Rattle.std.specs.declared.cmp.Ordering.TheVariants.{Less, Equal, Greater}
 use Rattle.std.specs.Cmp.{IsTotalOrder}
 use Rattle.std.specs.Ordering.{flip_args, int_cmp, is_lt, nat_cmp, on, ordering_reverse, ordering_then, then_cmp}
-use Rattle.std.specs.Prelude.{◌==◌, int_lt, nat_eq, nat_lt}
+use Rattle.std.specs.Prelude.{int_lt, nat_eq, nat_lt}
 use Rattle.std.proofs.lemmas.Bool.{cases_order, false≢true}
 use Rattle.std.proofs.lemmas.Cmp.{back_total, int_cmp_total, nat_cmp_total, nat_eq_equiv, on_total, then_total, tied_back, tied_itself}
 use Rattle.std.proofs.lemmas.List.{get_or_default}

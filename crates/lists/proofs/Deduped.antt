@@ -15,10 +15,10 @@ use Rattle.lists.proofs.Orderings.{equal_from}
 use Rattle.lists.proofs.RisingLists.{rising-head, rising-tail}
 
 module _ {X : Type 0} {R : X → X → Ordering} (o : IsTotalOrder R) where
-  -- in a list in strict order an item stands once at most
-  one_in_rising : (z : X) (xs : List X) → IsRising R xs → count_of R z xs ≤ 1
-  one_in_rising z [] up = omega arith
-  one_in_rising z (y ∷ ys) up = by (is_eq (R y z)) refl (one_in_rising z ys (rising-tail R y ys up))
+  -- in a list in strict order no two items tie with one value, also where items that tie may differ
+  ties_once : (xs : List X) → IsRising R xs → (z : X) → count_of R z xs ≤ 1
+  ties_once [] up z = omega arith
+  ties_once (y ∷ ys) up z = by (is_eq (R y z)) refl (ties_once ys (rising-tail R y ys up) z)
     where
       by : (b : Bool) → is_eq (R y z) ≡ b → count_of R z ys ≤ 1 → count_of R z (y ∷ ys) ≤ 1
       by true same later =
@@ -53,7 +53,7 @@ module _ {X : Type 0} {R : X → X → Ordering} (o : IsTotalOrder R) where
 
     pub count-dedup : (xs : List X) → IsSorted R xs → (z : X) → count_of R z (dedup E xs) ≡ min 1 (count_of R z xs)
     count-dedup xs sorted z =
-        by (count_of R z (dedup E xs)) (count_of R z xs) (one_in_rising z (dedup E xs) (rising-dedup xs sorted))
+        by (count_of R z (dedup E xs)) (count_of R z xs) (ties_once (dedup E xs) (rising-dedup xs sorted) z)
         (sym (any-counted (λ y. is_eq (R y z)) (dedup E xs)) ∙ (any-dedup z xs ∙ any-counted (λ y. is_eq (R y z)) xs))
       where
         by : (n m : ℕ) → n ≤ 1 → nat_le 1 n ≡ nat_le 1 m → n ≡ min 1 m

@@ -1,7 +1,6 @@
 -- One more ring.
-use Rattle.std.proofs.Common.{◌≡◌, ◌<◌, ℕ, Some, length, get_or, refl, sym}
+use Rattle.std.proofs.Common.{◌<◌, ℕ, length, get_or, refl}
 use Rattle.std.specs.BTreeSet.{contains}
-use Rattle.std.specs.List.{slice_get}
 use Rattle.std.specs.Ordering.{int_cmp}
 use Rattle.std.proofs.lemmas.List.{get_or_default, take_all}
 use Rattle.std.proofs.lemmas.Option.{slice_get_read}

@@ -1,5 +1,4 @@
 -- One more pair.
-use Rattle.coast_sides.specs.ChoiceSteps.{knows}
 use Rattle.coast_sides.proofs.KnownFoes.{pair_added}
 use Rattle.coast_sides.proofs.foes.foes_of.Goals as goal
 
