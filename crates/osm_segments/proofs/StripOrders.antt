@@ -12,7 +12,7 @@ use Rattle.osm_lattice.specs.declared.loc.Loc.{Loc}
 use Rattle.osm_lattice.specs.declared.seg.Seg.{Seg}
 use Rattle.osm_lattice.specs.Conflict.{conflict_of}
 use Rattle.osm_lattice.specs.Loc.{orientation, vector_of}
-use Rattle.osm_lattice.proofs.LatticeKit.{loc_from_vectors, seg_from_ends}
+use Rattle.osm_lattice.proofs.LatticeKit.{loc_from_vectors}
 use Rattle.osm_segments.specs.Tilted.{steep, tilted, tilted_point}
 use Rattle.osm_segments.specs.declared.ranges.strips.Strip.{Strip}
 use Rattle.osm_segments.specs.Ranges.{BeginTogether, BothRun, EndTogether, IsLeftAt, RunClear, RunsLeft, height, side_at}
