@@ -1,5 +1,5 @@
 -- Rounds one after the other, and rings one after the other.
-use Rattle.std.proofs.Common.{◌≡◌, ℕ, ℤ, ◌+◌, ◌<◌, ◌≤◌, Bool, true, false, Contains, List, [], ◌∷◌, ◌++◌, Some, length, get_or, map, take, refl, sym, ap, subst, ◌∙◌, arith}
+use Rattle.std.proofs.Common.{◌≡◌, inr, ℕ, ℤ, ◌+◌, ◌<◌, ◌≤◌, Bool, true, false, Contains, List, [], ◌∷◌, ◌++◌, Some, length, get_or, map, take, refl, sym, ap, subst, ◌∙◌, arith}
 use Rattle.std.specs.Prelude.{is_some}
 use Rattle.std.specs.List.{flat_map, list_any}
 use Rattle.std.proofs.lemmas.Bool.{false_from_ne_true, false≢true}
@@ -17,7 +17,7 @@ use Rattle.osm_segments.specs.declared.pairs.Pair.{Pair}
 use Rattle.osm_segments.specs.declared.places.Places.{Places}
 use Rattle.coast_join.specs.Round.{IsRound}
 use Rattle.coast_join.specs.declared.ring.CoastRing.{CoastRing}
-use Rattle.coast_sides.specs.CutSteps.{AreCrossed, IsCutLine, IsCutRing, IsFoundBy, IsShortened}
+use Rattle.coast_sides.specs.CutSteps.{AreCrossed, IsCutLine, IsCutRing, IsFoundBy, IsLeftBehind, IsShortened}
 use Rattle.coast_sides.specs.Rounds.{AreCutDown, AreRounds, conflicts_itself, round_cuts}
 use Rattle.coast_sides.specs.Segments.{all_segments, segments_round}
 use Rattle.coast_sides.specs.Shortcuts.{shortened}
@@ -142,3 +142,6 @@ ring_more rings i ring left next cuts told h at are r =
     subst (λ (rs : List CoastRing). AreCutDown rs next told) (sym (take_more rings i ring h ∙ ap (λ (r : CoastRing). take i rings ++ r ∷ []) (sym at)))
     (two_lists (AreCutDown (take i rings ++ ring ∷ [])) next (left ++ first) told (cuts ++ more) r.left_behind.2 r.told
     (more_rings (take i rings) left first cuts more ring are (r.rounds, r.last, r.are, first, r.left_behind.1, [], [], (refl, refl), sym (append-nil first), sym (append-nil more))))
+
+pub left_behind : (item ring : CoastRing) (path : List Loc) (old new : List CoastRing) → new ≡ old ++ item ∷ [] → item.name ≡ ring.name → item.path ≡ path → IsLeftBehind ring path old new
+left_behind item ring path old new is name line = (item ∷ [], inr (item, name, line, refl), is)

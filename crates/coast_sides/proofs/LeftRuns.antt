@@ -12,7 +12,8 @@ use Rattle.coast_sides.specs.Shortcuts.{first_left, remaining, run_at, run_from,
 use Rattle.coast_sides.specs.ShortcutSteps.{cuts_of, place_after, places_left, run_to}
 use Rattle.coast_sides.specs.declared.cut.Cut.{Cut}
 use Rattle.coast_join.specs.Line.{origin}
-use Rattle.coast_sides.proofs.ListSteps.{given_step}
+use Rattle.coast_sides.proofs.ListSteps.{given_step, named_step}
+use Rattle.std.proofs.lemmas.List.FromFn.{get_or-enumerate_from, length-enumerate_from}
 
 -- those that remain, each with its place
 abbrev pub numbered_left : ℕ → List (Loc × Bool) → List (ℕ × (Loc × Bool))
@@ -217,3 +218,17 @@ module _ (marks : List (Loc × Bool)) (left : List ℕ) (are : left ≡ places_l
   pub runs_all : (ring : ℤ) (i : ℕ) (first now : List Cut) → length left ≤ i → now ≡ first ++ cuts_of ring (filter_map (run_at marks) (take i (numbered_left 0 marks))) → now ≡ first ++ cuts_of ring (runs marks)
   runs_all ring i first now h was =
       was ∙ ap (λ (rs : List (Loc × Loc)). first ++ cuts_of ring rs) (ap (filter_map (run_at marks)) (take_all i (numbered_left 0 marks) (omega (arith, as_many, h))) ∙ all_runs marks)
+
+pub place_more : (marks : List (Loc × Bool)) (i : ℕ) (m : Loc × Bool) (b : Bool) (old new : List ℕ) → i < length marks → m ≡ get_or marks i m → b ≡ not m.1 → old ≡ map (λ (x : ℕ × (Loc × Bool)). x.0) (filter (λ (x : ℕ × (Loc × Bool)). not x.1.1) (take i (enumerate_from 0 marks)))
+    → new ≡ old ++ (if b then i ∷ [] else []) → new ≡ map (λ (x : ℕ × (Loc × Bool)). x.0) (filter (λ (x : ℕ × (Loc × Bool)). not x.1.1) (take (i + 1) (enumerate_from 0 marks)))
+place_more marks i m b old new h is e was after =
+    let x : ℕ × (Loc × Bool) = (i, m) in
+    let long = length-enumerate_from 0 marks in
+    let none : 0 + i ≡ i = omega arith in
+    let at : x ≡ get_or (enumerate_from 0 marks) i x = sym (get_or-enumerate_from 0 marks i x h ∙ (λ j. (none j, sym is j))) in
+    named_step (λ (x : ℕ × (Loc × Bool)). x.0) (λ (x : ℕ × (Loc × Bool)). not x.1.1) (enumerate_from 0 marks) i x b old new (omega (arith, h, long)) at e was after
+
+pub place_all : (marks : List (Loc × Bool)) (i : ℕ) (now : List ℕ) → length marks ≤ i → now ≡ map (λ (x : ℕ × (Loc × Bool)). x.0) (filter (λ (x : ℕ × (Loc × Bool)). not x.1.1) (take i (enumerate_from 0 marks))) → now ≡ places_left marks
+place_all marks i now h was =
+    let long = length-enumerate_from 0 marks in
+    was ∙ ap (λ (xs : List (ℕ × (Loc × Bool))). map (λ (x : ℕ × (Loc × Bool)). x.0) (filter (λ (x : ℕ × (Loc × Bool)). not x.1.1) xs)) (take_all i (enumerate_from 0 marks) (omega (arith, h, long)))

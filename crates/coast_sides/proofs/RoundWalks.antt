@@ -4,7 +4,7 @@ use Rattle.std.specs.Prelude.{nat_lt}
 use Rattle.std.specs.List.{enumerate_from, filter_map, list_any, slice_get}
 use Rattle.std.specs.Option.{option_to_list}
 use Rattle.std.proofs.lemmas.Bool.{false_from_ne_true}
-use Rattle.std.proofs.lemmas.List.{get_or-map, get_or-replicate, length-map, length-replicate, take_all, take_more}
+use Rattle.std.proofs.lemmas.List.{append-nil, drop_all, get_or-map, get_or-replicate, length-map, length-replicate, take_all, take_more}
 use Rattle.std.proofs.lemmas.List.Elements.{Contains-get_or}
 use Rattle.std.proofs.lemmas.List.FromFn.{get_or-enumerate_from, length-enumerate_from}
 use Rattle.std.proofs.lemmas.Option.{get_or_from_slice_get, slice_get_read, slice_get_within}
@@ -130,3 +130,8 @@ pub marks_all : (path : List Loc) (k : ℕ) (now : List (Loc × Bool)) → lengt
 marks_all path k now h was =
     let long : length (marked path) ≡ length path = length-map (enumerate_from 0 path) (λ (m : ℕ × Loc). (m.1, is_cut_out path m.0)) ∙ length-enumerate_from 0 path in
     was ∙ take_all k (marked path) (omega (arith, long))
+
+-- ---- a list whose part is put back
+
+pub put_back : (new old : List ℕ) (n : ℕ) → length new ≡ length old → n ≡ length old → take n (new ++ drop (length new) old) ≡ new
+put_back new old n same long = ap (λ (xs : List ℕ). take n (new ++ xs)) (drop_all (length new) old (omega arith)) ∙ (ap (take n) (append-nil new) ∙ take_all n new (omega arith))

@@ -1,6 +1,6 @@
 //! One round of shortcuts: where two steps of a closed line conflict, the fewer of the locations between them are cut out.
 
-ghost use Rattle.std.specs.Prelude.{◌≡◌, ◌||◌, ◌≤◌, ◌<◌, ◌++◌, ℕ, Bool, All, IfOk, OnOk, length};
+ghost use Rattle.std.specs.Prelude.{◌≡◌, ◌||◌, ◌≤◌, ◌<◌, ◌++◌, ◌∷◌, [], ℕ, Bool, if◌then◌else◌, All, IfOk, OnOk, length, replicate};
 ghost use Rattle.std.specs.List.{list_any};
 ghost use Rattle.std.specs.List.Sorted.{IsSorted};
 ghost use Rattle.osm_lattice.specs.declared.loc.Loc.{Loc};
@@ -19,8 +19,21 @@ use crate::steps_along::{StepAlong, steps_along};
 use crate::stretches::reach_between;
 use coast_join::round_path;
 use osm_geom::{Loc, Path, Seg, conflicts_are_symmetric, orders_are_exact};
-use osm_segments::{Places, pair_at};
+use osm_segments::{Pair, Places, pair_at};
 use std::alloc::{AllocError as OutOfMemory, Global};
+
+/// Reaches what is cut out between steps along the segments of a pair, if there is one.
+fn reach_told(reach: &mut [usize], steps: &[StepAlong], told: Option<Pair>)
+    requires sorted { IsSorted step_along_cmp steps.now }
+    requires inside { All (λ (t : StepAlong). t.place < length reach.old) steps.now }
+    ensures { (k : ℕ) → k < length reach.old → is_reached reach.new k
+        ≡ (is_reached reach.old k || told_cuts_out (length reach.old) k steps.now told) }
+{
+    let Some(pair) = told else {
+        return;
+    };
+    reach_between(reach, steps, &pair);
+}
 
 /// Reaches what is cut out between steps along the segments of each conflict.
 fn reach_all(reach: &mut [usize], steps: &[StepAlong], segs: &[Seg], conflicts: &[Places])
@@ -30,11 +43,16 @@ fn reach_all(reach: &mut [usize], steps: &[StepAlong], segs: &[Seg], conflicts: 
         ≡ (is_reached reach.old k || list_any (λ places. told_cuts_out (length reach.old) k
         steps.now (pair_at segs.now places)) conflicts.now) }
 {
-    for &places in conflicts {
-        if let Some(pair) = pair_at(segs, places) {
-            reach_between(reach, steps, &pair);
-        }
+    for places in conflicts {
+        reach_told(reach, steps, pair_at(segs, *places));
     }
+}
+
+/// So many numbers 0.
+fn zeros(alloc: Global, count: usize) -> Result<Vec<usize>, OutOfMemory>
+    ensures { IfOk result (λ v. v.items ≡ replicate count 0) }
+{
+    vec![in alloc; 0; count]
 }
 
 /// How many locations are cut out behind each step of a closed line, at most.
@@ -52,7 +70,7 @@ fn reaches_along(
 {
     orders_are_exact();
     conflicts_are_symmetric();
-    let mut reach = vec![in alloc; 0; path.len()]?;
+    let mut reach = zeros(alloc, path.len())?;
     reach_all(&mut reach, steps, segs, conflicts);
     Ok(reach)
 }
@@ -127,15 +145,24 @@ fn remaining(alloc: Global, marks: &[(Loc, bool)]) -> Result<Vec<Loc>, OutOfMemo
         .collect(alloc)
 }
 
+/// Adds a place, if its location remains.
+fn add_place(left: &mut Vec<usize>, place: usize, remains: bool) -> Result<(), OutOfMemory>
+    ensures { OnOk result (left.new.items ≡ left.old.items
+        ++ (if remains then place ∷ [] else [])) }
+{
+    if remains {
+        left.push(place)?;
+    }
+    Ok(())
+}
+
 /// The places of the locations that remain, in order.
 fn places_left(alloc: Global, marks: &[(Loc, bool)]) -> Result<Vec<usize>, OutOfMemory>
     ensures { IfOk result (λ v. v.items ≡ places_left marks.now) }
 {
     let mut left = Vec::new(alloc);
     for (place, mark) in marks.iter().enumerate() {
-        if !mark.1 {
-            left.push(place)?;
-        }
+        add_place(&mut left, place, !mark.1)?;
     }
     Ok(left)
 }
