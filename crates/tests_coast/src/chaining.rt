@@ -2,12 +2,11 @@
 
 use crate::printing::put_path;
 use coast_join::{Chain, CoastInput, CoastWay, chains};
-use std::alloc::Global;
+use std::alloc::{AllocError as OutOfMemory, Global};
 use std::fmt::Write;
-use worked_form::RowFault;
 
 /// Adds how many ways there are, and those that are set aside.
-pub(crate) fn put_input(input: &CoastInput, told: &mut String) -> Result<(), RowFault> {
+pub(crate) fn put_input(input: &CoastInput, told: &mut String) -> Result<(), OutOfMemory> {
     write!(told, "{} ways\n", input.ways.as_slice().len())?;
     for aside in input.aside.as_slice() {
         write!(told, "{aside:?}\n")?;
@@ -20,7 +19,7 @@ pub(crate) fn put_chains(
     alloc: Global,
     ways: &[CoastWay],
     told: &mut String,
-) -> Result<(), RowFault> {
+) -> Result<(), OutOfMemory> {
     for chain in &chains(alloc, ways)? {
         put_chain(chain, told)?;
     }
@@ -28,13 +27,12 @@ pub(crate) fn put_chains(
 }
 
 /// Adds a chain: its name, its ways, whether it is a round or a line, and its path.
-fn put_chain(chain: &Chain, told: &mut String) -> Result<(), RowFault> {
+fn put_chain(chain: &Chain, told: &mut String) -> Result<(), OutOfMemory> {
     write!(told, "{}:", chain.name)?;
     for way in chain.ways.as_slice() {
         write!(told, " {way}")?;
     }
     told.push_str(if chain.closed { " round" } else { " line" })?;
     put_path(chain.path.as_slice(), told)?;
-    told.push_str("\n")?;
-    Ok(())
+    told.push('\n')
 }

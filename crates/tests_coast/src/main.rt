@@ -10,7 +10,7 @@ mod sides;
 use coast_join::{CoastInput, coast_input};
 use opl_reader::read_line;
 use osm_objects::Store;
-use std::alloc::Global;
+use std::alloc::{AllocError as OutOfMemory, Global};
 use std::io;
 use std::process::ExitCode;
 use worked_form::{Call, RowFault, Rows, follow_rows};
@@ -34,7 +34,7 @@ fn answer_over(
 ) -> Result<(), RowFault> {
     add_lines(alloc, store, call.str()?)?;
     let input = coast_input(alloc, store)?;
-    answer_on(alloc, call, &input, told)
+    Ok(answer_on(alloc, call, &input, told)?)
 }
 
 /// Adds the objects of lines of OPL to a store.
@@ -56,7 +56,7 @@ fn answer_on(
     call: Call<'_>,
     input: &CoastInput,
     told: &mut String,
-) -> Result<(), RowFault> {
+) -> Result<(), OutOfMemory> {
     let ways = input.ways.as_slice();
     match call.word {
         "ways" => chaining::put_input(input, told),

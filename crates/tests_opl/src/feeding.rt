@@ -97,7 +97,7 @@ fn fed(lines: &mut Lines, piece: &[u8]) -> Result<(Option<i64>, usize), FeedErro
 }
 
 /// Adds the answer to a piece, and how many lines were read.
-fn put_answer(lines: &mut Lines, piece: &[u8], told: &mut String) -> Result<(), RowFault>
+fn put_answer(lines: &mut Lines, piece: &[u8], told: &mut String) -> Result<(), OutOfMemory>
     requires { lines.old.fed + length piece.now < 2 ^ 63 }
     ensures { lines.new.fed ≤ lines.old.fed + length piece.now }
 {
@@ -110,11 +110,10 @@ fn put_told(
     answer: Result<(Option<i64>, usize), FeedError>,
     line: u64,
     told: &mut String,
-) -> Result<(), RowFault> {
+) -> Result<(), OutOfMemory> {
     match answer {
-        Ok((id, used)) => write!(told, "{id:?} {used}, line {line}\n")?,
-        Err(FeedError::Line { line, fault }) => write!(told, "{:?} in line {line}\n", fault.kind)?,
-        Err(error) => write!(told, "{error:?}\n")?,
+        Ok((id, used)) => write!(told, "{id:?} {used}, line {line}\n"),
+        Err(FeedError::Line { line, fault }) => write!(told, "{:?} in line {line}\n", fault.kind),
+        Err(error) => write!(told, "{error:?}\n"),
     }
-    Ok(())
 }

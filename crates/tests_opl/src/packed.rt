@@ -47,22 +47,29 @@ fn place_of(words: &str) -> Option<Loc> {
 fn put_references(alloc: Global, all: &[Ref], told: &mut String) -> Result<(), RowFault> {
     let mut right = 0u64;
     for start in 0..all.len() {
-        if stay_right(alloc, all, start)? {
+        let turned = turned(alloc, all, start)?;
+        if stay_right(alloc, &turned)? {
             right = right.saturating_add(1);
         }
     }
     Ok(write!(told, "right from {right} of {}", all.len())?)
 }
 
-/// Whether references stay right as they are added one by one, first those from a place on.
-fn stay_right(alloc: Global, all: &[Ref], start: usize) -> Result<bool, RowFault> {
-    let mut refs = Refs::new(alloc);
-    let mut wanted = Vec::new(alloc);
+/// The references from a place on, and then those before it.
+fn turned(alloc: Global, all: &[Ref], start: usize) -> Result<Vec<Ref>, OutOfMemory> {
     let (before, first) = all.split_at(start.min(all.len()));
-    for reference in first.iter().chain(before) {
+    let mut turned = Vec::new(alloc);
+    turned.extend_from_slice(first)?;
+    turned.extend_from_slice(before)?;
+    Ok(turned)
+}
+
+/// Whether references stay right as they are added one by one.
+fn stay_right(alloc: Global, all: &[Ref]) -> Result<bool, OutOfMemory> {
+    let mut refs = Refs::new(alloc);
+    for (index, reference) in all.iter().enumerate() {
         refs.push(*reference)?;
-        wanted.push(*reference)?;
-        if !are(&refs, &wanted) {
+        if !are(&refs, &all[..index + 1]) {
             return Ok(false);
         }
     }

@@ -1,41 +1,31 @@
 //! Locations, segments and fractions.
 
-use crate::reading::{loc, parts, seg};
+use crate::parts;
 use osm_lattice::{Frac, Kind, Seg, compare_to_line, conflict, meeting, orient, overlap, round};
+use std::alloc::AllocError as OutOfMemory;
 use std::fmt::Write;
+use tests_drawing::{loc, put_seg, seg};
 use worked_form::RowFault;
 
-/// Adds the answer of a call on a few locations or segments.
+/// Adds the answer of a call on locations, a segment or a fraction.
 pub(crate) fn answer(word: &str, text: &str, told: &mut String) -> Result<(), RowFault> {
     match word {
-        "location" => put_location(text, told),
-        "lesser" => put_lesser(text, told),
-        "order" => put_order(text, told),
+        "valid" => Ok(put_valid(text, told)?),
+        "segment" => Ok(put_seg(seg(text)?, told)?),
         "orientation" => put_orientation(text, told),
         "side" => put_side(text, told),
-        "rounded" => put_rounded(text, told),
-        _ => put_shared(word, text, told),
+        _ => put_rounded(text, told),
     }
 }
 
-/// Adds whether numbers are those of a location.
-fn put_location(text: &str, told: &mut String) -> Result<(), RowFault> {
-    Ok(told.push_str(if loc(text).is_ok() { "one" } else { "none" })?)
-}
-
-/// Adds the lesser end of the segment between two locations.
-fn put_lesser(text: &str, told: &mut String) -> Result<(), RowFault> {
-    match seg(text) {
-        Ok(s) => Ok(write!(told, "{},{}", s.a.x, s.a.y)?),
-        Err(_) => Ok(told.push_str("none")?),
-    }
-}
-
-/// Adds the order of two segments.
-fn put_order(text: &str, told: &mut String) -> Result<(), RowFault> {
-    let (first, second) = parts(text);
-    let order = seg(first)?.cmp(&seg(second)?);
-    Ok(write!(told, "{order:?}")?)
+/// Adds whether two numbers are those of a location, or two locations the ends of a segment.
+fn put_valid(text: &str, told: &mut String) -> Result<(), OutOfMemory> {
+    let is_valid = if text.contains(' ') {
+        seg(text).is_ok()
+    } else {
+        loc(text).is_ok()
+    };
+    write!(told, "{is_valid}")
 }
 
 /// Adds the orientation of three locations.
@@ -65,48 +55,25 @@ fn put_rounded(text: &str, told: &mut String) -> Result<(), RowFault> {
     Ok(write!(told, "{rounded}")?)
 }
 
-/// Adds how two segments conflict, either way round, or what they share.
-fn put_shared(word: &str, text: &str, told: &mut String) -> Result<(), RowFault> {
+/// Adds the order of two segments, how they conflict, or what they share.
+pub(crate) fn put_two(word: &str, text: &str, told: &mut String) -> Result<(), RowFault> {
     let (first, second) = parts(text);
     let (s, t) = (seg(first)?, seg(second)?);
     match word {
-        "conflict" => put_conflict(s, t, told),
-        "meeting" => put_meeting(s, t, told),
-        "overlap" => put_overlap(s, t, told),
-        _ => Err(RowFault("an unknown call")),
+        "order" => Ok(write!(told, "{:?}", s.cmp(&t))?),
+        "conflict" => Ok(write!(told, "{:?} {:?}", conflict(s, t), conflict(t, s))?),
+        _ => Ok(put_shared(s, t, told)?),
     }
 }
 
-/// Adds the conflict of two segments, either way round.
-fn put_conflict(s: Seg, t: Seg, told: &mut String) -> Result<(), RowFault> {
-    let (one, other) = (conflict(s, t), conflict(t, s));
-    if one != other {
-        return Err(RowFault("not the same either way round"));
+/// Adds the x and the y in which two segments cross, as fractions, or the segment that they share.
+fn put_shared(s: Seg, t: Seg, told: &mut String) -> Result<(), OutOfMemory> {
+    match conflict(s, t) {
+        Some(Kind::Crossing) => {
+            let (x, y) = meeting(s, t);
+            write!(told, "{}/{},{}/{}", x.num, x.den, y.num, y.den)
+        }
+        Some(Kind::Overlap) => put_seg(overlap(s, t), told),
+        None => told.push_str("nothing"),
     }
-    match one {
-        Some(kind) => Ok(write!(told, "{kind:?}")?),
-        None => Ok(told.push_str("none")?),
-    }
-}
-
-/// Adds the x and the y in which two segments cross, as fractions.
-fn put_meeting(s: Seg, t: Seg, told: &mut String) -> Result<(), RowFault> {
-    let Some(Kind::Crossing) = conflict(s, t) else {
-        return Err(RowFault("no crossing"));
-    };
-    let (x, y) = meeting(s, t);
-    Ok(write!(told, "{}/{},{}/{}", x.num, x.den, y.num, y.den)?)
-}
-
-/// Adds what two overlapping segments share.
-fn put_overlap(s: Seg, t: Seg, told: &mut String) -> Result<(), RowFault> {
-    let Some(Kind::Overlap) = conflict(s, t) else {
-        return Err(RowFault("no overlap"));
-    };
-    put_seg(overlap(s, t), told)
-}
-
-/// Adds the ends of a segment.
-pub(crate) fn put_seg(s: Seg, told: &mut String) -> Result<(), RowFault> {
-    Ok(write!(told, "{},{} {},{}", s.a.x, s.a.y, s.b.x, s.b.y)?)
 }

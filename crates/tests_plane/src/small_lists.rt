@@ -1,74 +1,63 @@
 //! What survives of small lists of segments, what stands there repeatedly, what conflicts and what ends oddly.
 
-use crate::lattice::put_seg;
-use crate::reading::segs;
-use osm_lattice::Seg;
-use osm_segments::{conflicts, distinct, odd_nodes, repeated, survivors};
-use std::alloc::Global;
+use osm_lattice::{Loc, Seg};
+use osm_segments::{Pair, Repeat, conflicts, distinct, odd_nodes, repeated, survivors};
+use std::alloc::{AllocError as OutOfMemory, Global};
 use std::fmt::Write;
-use worked_form::RowFault;
+use tests_drawing::put_seg;
 
-/// Adds the answer of a call on the segments along lines.
+/// Adds the answer of a call on segments.
 pub(crate) fn answer(
     alloc: Global,
     word: &str,
-    text: &str,
+    list: &[Seg],
     told: &mut String,
-) -> Result<(), RowFault> {
-    let list = segs(alloc, text)?;
+) -> Result<(), OutOfMemory> {
     match word {
-        "surviving" => put_surviving(alloc, &list, told),
-        "distinct" => put_segs(&distinct(alloc, &list)?, told),
-        "odd" => put_odd(alloc, &list, told),
-        "conflicting" => put_conflicts(alloc, &list, told),
-        _ => Err(RowFault("an unknown call")),
+        "surviving" => put_segs(&survivors(alloc, list)?, told),
+        "distinct" => put_segs(&distinct(alloc, list)?, told),
+        "repeated" => put_repeats(&repeated(alloc, list)?, told),
+        "odd" => put_locs(&odd_nodes(alloc, list)?, told),
+        "conflicting" => put_conflicts(alloc, list, told),
+        _ => told.push_str("an unknown call"),
     }
 }
 
-/// Adds segments, with slashes between.
-fn put_segs(list: &[Seg], told: &mut String) -> Result<(), RowFault> {
-    for (index, s) in list.iter().enumerate() {
-        told.push_str(if index == 0 { "" } else { " / " })?;
+/// Adds segments, a semicolon behind each.
+fn put_segs(list: &[Seg], told: &mut String) -> Result<(), OutOfMemory> {
+    for s in list {
         put_seg(*s, told)?;
+        told.push(';')?;
     }
     Ok(())
-}
-
-/// Adds what survives, what stands there repeatedly and how often, and how many nodes are odd: of all and of what survives.
-fn put_surviving(alloc: Global, list: &[Seg], told: &mut String) -> Result<(), RowFault> {
-    let kept = survivors(alloc, list)?;
-    put_segs(&kept, told)?;
-    put_repeats(alloc, list, told)?;
-    let (all, left) = (
-        odd_nodes(alloc, list)?.len(),
-        odd_nodes(alloc, &kept)?.len(),
-    );
-    Ok(write!(told, "; odd {all} {left}")?)
 }
 
 /// Adds what stands there repeatedly, and how often.
-fn put_repeats(alloc: Global, list: &[Seg], told: &mut String) -> Result<(), RowFault> {
-    for repeat in &repeated(alloc, list)? {
-        write!(told, "; {} times ", repeat.times)?;
-        put_seg(repeat.seg, told)?;
+fn put_repeats(repeats: &[Repeat], told: &mut String) -> Result<(), OutOfMemory> {
+    for repeat in repeats {
+        write!(told, "{} times ", repeat.times)?;
+        put_segs(&[repeat.seg], told)?;
     }
     Ok(())
 }
 
-/// Adds the odd nodes.
-fn put_odd(alloc: Global, list: &[Seg], told: &mut String) -> Result<(), RowFault> {
-    for (index, node) in odd_nodes(alloc, list)?.iter().enumerate() {
-        told.push_str(if index == 0 { "" } else { " " })?;
-        write!(told, "{},{}", node.x, node.y)?;
+/// Adds locations, a semicolon behind each.
+fn put_locs(list: &[Loc], told: &mut String) -> Result<(), OutOfMemory> {
+    for at in list {
+        write!(told, "{},{};", at.x, at.y)?;
     }
     Ok(())
 }
 
 /// Adds the conflicts of what survives.
-fn put_conflicts(alloc: Global, list: &[Seg], told: &mut String) -> Result<(), RowFault> {
+fn put_conflicts(alloc: Global, list: &[Seg], told: &mut String) -> Result<(), OutOfMemory> {
     let kept = survivors(alloc, list)?;
-    for (index, pair) in conflicts(alloc, &kept)?.iter().enumerate() {
-        told.push_str(if index == 0 { "" } else { "; " })?;
+    put_pairs(&conflicts(alloc, &kept)?, told)
+}
+
+/// Adds pairs of segments, and how they conflict.
+fn put_pairs(pairs: &[Pair], told: &mut String) -> Result<(), OutOfMemory> {
+    for pair in pairs {
         write!(told, "{:?} ", pair.kind)?;
         put_segs(&[pair.first, pair.second], told)?;
     }

@@ -4,7 +4,7 @@ ghost use Rattle.osm_geom.specs.InPlane.Sided.{IsSided};
 use crate::printing::put_polygons;
 use coast_split::{Leaf, Leaves, Settings, SplitError, count_leaves};
 use osm_geom::Edges;
-use std::alloc::Global;
+use std::alloc::{AllocError as OutOfMemory, Global};
 use std::fmt::Write;
 use tests_drawing::sided;
 use worked_form::RowFault;
@@ -21,32 +21,44 @@ fn settings(words: &str) -> Settings {
     }
 }
 
-/// Adds the leaves along closed lines as they are handed out, with a bar between, and how many are counted. No list here has more
-/// than eight.
+/// Adds the leaves along closed lines as they are handed out, a bar behind each, and how many are counted. No list here has more than
+/// eight.
 pub(crate) fn put_leaves(
     alloc: Global,
     lines: &str,
     by: &str,
     told: &mut String,
 ) -> Result<(), RowFault> {
-    let settings = settings(by);
-    let mut leaves = Leaves::of(alloc, sided(alloc, lines, "")?, &settings)?;
-    for _ in 0..9 {
-        let Some(leaf) = leaves.next()? else {
-            break;
-        };
-        put_leaf(alloc, &leaf, told)?;
-    }
+    let edges = sided(alloc, lines, "")?;
+    put_each(alloc, edges, &settings(by), told)?;
     put_count(alloc, lines, by, told)
 }
 
+/// Adds the leaves of sided edges.
+fn put_each(
+    alloc: Global,
+    edges: Edges,
+    settings: &Settings,
+    told: &mut String,
+) -> Result<(), OutOfMemory>
+    requires { IsSided edges }
+{
+    let mut leaves = Leaves::of(alloc, edges, settings)?;
+    for _ in 0..9 {
+        let Some(leaf) = leaves.next()? else {
+            return Ok(());
+        };
+        put_leaf(alloc, &leaf, told)?;
+    }
+    Ok(())
+}
+
 /// Adds a leaf: its polygons, and whether it is large.
-fn put_leaf(alloc: Global, leaf: &Leaf, told: &mut String) -> Result<(), RowFault>
+fn put_leaf(alloc: Global, leaf: &Leaf, told: &mut String) -> Result<(), OutOfMemory>
     requires { IsSided leaf.now.edges }
 {
     put_polygons(alloc, &leaf.edges, told)?;
-    told.push_str(if leaf.large { " large | " } else { " | " })?;
-    Ok(())
+    told.push_str(if leaf.large { "large|" } else { "|" })
 }
 
 /// Adds how many leaves of closed lines are counted, or that they are more than are allowed.

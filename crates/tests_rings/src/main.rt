@@ -20,7 +20,7 @@ impl Rows for Drawings {
         let text = call.str()?;
         let (lines, by) = text.split_once(" by ").unwrap_or((text, ""));
         match call.word {
-            "polygons" => put_polygons(alloc, &sided(alloc, lines, by)?, told),
+            "polygons" => Ok(put_polygons(alloc, &sided(alloc, lines, by)?, told)?),
             "leaves" => leaves::put_leaves(alloc, lines, by, told),
             "count" => leaves::put_count(alloc, lines, by, told),
             "bands" => bands::put_bands(alloc, text, told),

@@ -3,12 +3,11 @@
 use crate::reading::named;
 use osm_elements::{ObjectKind, ObjectRef, Tags, Text};
 use osm_objects::{Choice, Keys, Store, area_id};
-use std::alloc::Global;
+use std::alloc::{AllocError as OutOfMemory, Global};
 use std::fmt::Write;
-use worked_form::RowFault;
 
 /// Adds ids, a blank before each.
-pub(crate) fn put_ids(ids: &[i64], told: &mut String) -> Result<(), RowFault> {
+pub(crate) fn put_ids(ids: &[i64], told: &mut String) -> Result<(), OutOfMemory> {
     for id in ids {
         write!(told, " {id}")?;
     }
@@ -16,18 +15,18 @@ pub(crate) fn put_ids(ids: &[i64], told: &mut String) -> Result<(), RowFault> {
 }
 
 /// Adds the id of the area of a word such as `w7`.
-pub(crate) fn put_id(word: &str, told: &mut String) -> Result<(), RowFault> {
+pub(crate) fn put_id(word: &str, told: &mut String) -> Result<(), OutOfMemory> {
     Ok(write!(told, "{:?}", area_id(named(word)))?)
 }
 
 /// Adds the kind and the id of a candidate.
-fn put_name(of: ObjectRef, told: &mut String) -> Result<(), RowFault> {
+fn put_name(of: ObjectRef, told: &mut String) -> Result<(), OutOfMemory> {
     let letter = if of.kind == ObjectKind::Relation {
         "r"
     } else {
         "w"
     };
-    Ok(write!(told, "{letter}{}", of.id)?)
+    write!(told, "{letter}{}", of.id)
 }
 
 /// Adds the candidates that words choose: `untagged`, and the keys of areas and of lines, as `areas=building lines=highway`.
@@ -36,7 +35,7 @@ pub(crate) fn put_candidates(
     store: &Store,
     words: &str,
     told: &mut String,
-) -> Result<(), RowFault> {
+) -> Result<(), OutOfMemory> {
     let mut choice = Choice::without_lists(words.contains("untagged"));
     add_keys(alloc, words, &mut choice)?;
     put_chosen(alloc, store, &choice, told)
@@ -48,16 +47,16 @@ fn put_chosen(
     store: &Store,
     choice: &Choice,
     told: &mut String,
-) -> Result<(), RowFault> {
+) -> Result<(), OutOfMemory> {
     for of in &store.candidates(alloc, choice)? {
-        told.push_str(" ")?;
+        told.push(' ')?;
         put_name(*of, told)?;
     }
     Ok(())
 }
 
 /// Gives a choice the keys of words.
-fn add_keys(alloc: Global, words: &str, choice: &mut Choice) -> Result<(), RowFault> {
+fn add_keys(alloc: Global, words: &str, choice: &mut Choice) -> Result<(), OutOfMemory> {
     for word in words.split_whitespace() {
         match word.split_once('=') {
             Some(("areas", keys)) => choice.area_keys = Some(keys_of(alloc, keys)?),
@@ -69,7 +68,7 @@ fn add_keys(alloc: Global, words: &str, choice: &mut Choice) -> Result<(), RowFa
 }
 
 /// The keys of a word such as `building,landuse`.
-fn keys_of(alloc: Global, word: &str) -> Result<Keys, RowFault> {
+fn keys_of(alloc: Global, word: &str) -> Result<Keys, OutOfMemory> {
     let mut keys = Keys::new(alloc);
     for key in word.split(',') {
         keys.push(Text::from_str(alloc, key)?)?;
@@ -78,7 +77,7 @@ fn keys_of(alloc: Global, word: &str) -> Result<Keys, RowFault> {
 }
 
 /// Adds the tags of each candidate's area, a line for each.
-pub(crate) fn put_tags(alloc: Global, store: &Store, told: &mut String) -> Result<(), RowFault> {
+pub(crate) fn put_tags(alloc: Global, store: &Store, told: &mut String) -> Result<(), OutOfMemory> {
     let choice = Choice::without_lists(false);
     for of in &store.candidates(alloc, &choice)? {
         put_name(*of, told)?;
@@ -88,13 +87,12 @@ pub(crate) fn put_tags(alloc: Global, store: &Store, told: &mut String) -> Resul
 }
 
 /// Adds tags, a blank before each, and ends the line.
-fn put_each(tags: &Tags, told: &mut String) -> Result<(), RowFault> {
+fn put_each(tags: &Tags, told: &mut String) -> Result<(), OutOfMemory> {
     let mut others = tags.iter();
     for _ in 0..tags.len() {
         if let Some(tag) = others.next() {
             write!(told, " {}={}", tag.key, tag.value)?;
         }
     }
-    told.push_str("\n")?;
-    Ok(())
+    told.push('\n')
 }

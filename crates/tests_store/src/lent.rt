@@ -5,7 +5,6 @@ use opl_writer::{put_node, put_relation, put_way};
 use osm_elements::{ObjectKind, ObjectRef};
 use osm_objects::Store;
 use std::alloc::{AllocError as OutOfMemory, Global};
-use worked_form::RowFault;
 
 /// Adds the lines of the objects of words such as `w7`, those that are held.
 pub(crate) fn put_lent(
@@ -13,15 +12,12 @@ pub(crate) fn put_lent(
     store: &Store,
     words: &str,
     told: &mut String,
-) -> Result<(), RowFault> {
+) -> Result<(), OutOfMemory> {
     let mut text = Vec::new(alloc);
     for word in words.split_whitespace() {
         put_object(store, named(word), &mut text)?;
     }
-    match str::from_utf8(&text) {
-        Ok(text) => Ok(told.push_str(text)?),
-        Err(_) => Err(RowFault("a line that isn't UTF-8")),
-    }
+    told.push_str(str::from_utf8(&text).unwrap_or("no UTF-8"))
 }
 
 /// Adds the line of an object, where it is held, and else that it isn't.

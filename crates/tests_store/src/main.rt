@@ -10,7 +10,7 @@ mod stored;
 mod texts;
 
 use osm_objects::Store;
-use std::alloc::Global;
+use std::alloc::{AllocError as OutOfMemory, Global};
 use std::io;
 use std::process::ExitCode;
 use worked_form::{Call, RowFault, Rows, follow_rows};
@@ -22,7 +22,7 @@ impl Rows for Stores {
     fn answer(alloc: Global, call: Call<'_>, told: &mut String) -> Result<(), RowFault> {
         let text = call.str()?;
         match call.word {
-            "id" => chosen::put_id(text, told),
+            "id" => Ok(chosen::put_id(text, told)?),
             "text" => texts::put_text(alloc, text, told),
             _ => {
                 let mut store = Store::new(alloc);
@@ -44,11 +44,14 @@ fn answer_over(
         "many" => many::put_found(alloc, store, text, told),
         "refused" => {
             stored::put_refused(alloc, store, text, told)?;
-            stored::put_locations(store, call.by, told)
+            Ok(stored::put_locations(store, call.by, told)?)
         }
         _ => {
             reading::add_lines(alloc, store, text)?;
-            answer_of(alloc, call, store, told)
+            if call.word == "places" {
+                return stored::put_places(alloc, store, call.by, told);
+            }
+            Ok(answer_of(alloc, call, store, told)?)
         }
     }
 }
@@ -59,7 +62,7 @@ fn answer_of(
     call: Call<'_>,
     store: &Store,
     told: &mut String,
-) -> Result<(), RowFault> {
+) -> Result<(), OutOfMemory> {
     match call.word {
         "candidates" => chosen::put_candidates(alloc, store, call.by, told),
         "tags" => chosen::put_tags(alloc, store, told),
@@ -67,8 +70,7 @@ fn answer_of(
         "nodes" => chosen::put_ids(&store.nodes(alloc)?, told),
         "lent" => lent::put_lent(alloc, store, call.by, told),
         "locations" => stored::put_locations(store, call.by, told),
-        "places" => stored::put_places(alloc, store, call.by, told),
-        _ => Err(RowFault("an unknown call")),
+        _ => told.push_str("an unknown call"),
     }
 }
 

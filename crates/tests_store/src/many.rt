@@ -2,7 +2,7 @@
 
 use crate::reading::add_line;
 use osm_objects::Store;
-use std::alloc::Global;
+use std::alloc::{AllocError as OutOfMemory, Global};
 use std::fmt::Write;
 use worked_form::RowFault;
 
@@ -16,6 +16,11 @@ pub(crate) fn put_found(
 ) -> Result<(), RowFault> {
     let step: i64 = step.trim().parse().unwrap_or(0);
     add_all(alloc, store, step)?;
+    Ok(put_counts(store, step, told)?)
+}
+
+/// Adds how many of the ids are found, and how many beside them.
+fn put_counts(store: &Store, step: i64, told: &mut String) -> Result<(), OutOfMemory> {
     let found = (-20_000_i64..30_000)
         .filter(|count| finds_both(store, count.wrapping_mul(step)))
         .count();
@@ -23,7 +28,7 @@ pub(crate) fn put_found(
         .into_iter()
         .filter(|id| store.way(*id).is_some() || store.relation(*id).is_some())
         .count();
-    Ok(write!(told, "{found} found, and {others} others")?)
+    write!(told, "{found} found, and {others} others")
 }
 
 /// Adds ways and then relations, their ids so far apart.

@@ -4,7 +4,7 @@ use crate::reading::object_of;
 use osm_elements::{Object, Refs};
 use osm_lattice::Loc;
 use osm_objects::Store;
-use std::alloc::Global;
+use std::alloc::{AllocError as OutOfMemory, Global};
 use std::fmt::Write;
 use worked_form::RowFault;
 
@@ -18,24 +18,38 @@ pub(crate) fn put_refused(
     let mut number = 0u64;
     for line in lines.lines() {
         number = number.saturating_add(1);
-        let object = object_of(alloc, line)?;
-        if let Err(error) = store.add(object) {
-            write!(told, "{number} {error:?}\n")?;
-        }
+        put_added(store, object_of(alloc, line)?, number, told)?;
     }
     Ok(())
 }
 
+/// Adds an object to a store, and tells the number of its line where it is refused.
+fn put_added(
+    store: &mut Store,
+    object: Object,
+    number: u64,
+    told: &mut String,
+) -> Result<(), OutOfMemory> {
+    match store.add(object) {
+        Ok(()) => Ok(()),
+        Err(error) => write!(told, "{number} {error:?}\n"),
+    }
+}
+
 /// Adds a location.
-fn put_place(place: Option<Loc>, told: &mut String) -> Result<(), RowFault> {
+fn put_place(place: Option<Loc>, told: &mut String) -> Result<(), OutOfMemory> {
     match place {
-        Some(at) => Ok(write!(told, " {},{}", at.x, at.y)?),
-        None => Ok(told.push_str(" none")?),
+        Some(at) => write!(told, " {},{}", at.x, at.y),
+        None => told.push_str(" none"),
     }
 }
 
 /// Adds the locations of the nodes of these ids.
-pub(crate) fn put_locations(store: &Store, ids: &str, told: &mut String) -> Result<(), RowFault> {
+pub(crate) fn put_locations(
+    store: &Store,
+    ids: &str,
+    told: &mut String,
+) -> Result<(), OutOfMemory> {
     for id in ids.split_whitespace() {
         put_place(store.location(id.parse().unwrap_or(i64::MAX)), told)?;
     }
@@ -60,10 +74,10 @@ pub(crate) fn put_places(
 }
 
 /// Adds the locations of the references of a way that is held.
-fn put_held(store: &Store, id: i64, told: &mut String) -> Result<(), RowFault> {
+fn put_held(store: &Store, id: i64, told: &mut String) -> Result<(), OutOfMemory> {
     match store.way(id) {
         Some(way) => put_each(store, way.refs, told),
-        None => Err(RowFault("a way that isn't held")),
+        None => told.push_str("not held"),
     }
 }
 
@@ -76,13 +90,13 @@ fn put_place_of(
 ) -> Result<(), RowFault> {
     let line = format!(in alloc; "w1 N{word}")?;
     match object_of(alloc, &line)? {
-        Object::Way { refs, .. } => put_each(store, &refs, told),
+        Object::Way { refs, .. } => Ok(put_each(store, &refs, told)?),
         _ => Err(RowFault("no way")),
     }
 }
 
 /// Adds the location of each reference.
-fn put_each(store: &Store, refs: &Refs, told: &mut String) -> Result<(), RowFault> {
+fn put_each(store: &Store, refs: &Refs, told: &mut String) -> Result<(), OutOfMemory> {
     for reference in refs.iter() {
         put_place(store.place_of(&reference), told)?;
     }

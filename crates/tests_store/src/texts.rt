@@ -25,7 +25,7 @@ pub(crate) fn put_text(alloc: Global, words: &str, told: &mut String) -> Result<
     let bytes = bytes_of(alloc, number(count)?)?;
     let mut host = MemoryHost::new(alloc, (number(most)? as usize).max(1));
     prepare(&mut host, &bytes, number(fail)?)?;
-    put_read(alloc, &mut host, limit.parse().unwrap_or(0), &bytes, told)
+    Ok(put_read(alloc, &mut host, limit.parse().unwrap_or(0), &bytes, told)?)
 }
 
 /// Gives a host an input of these bytes, and the number of the call that fails.
@@ -42,13 +42,23 @@ fn put_read(
     limit: u32,
     bytes: &[u8],
     told: &mut String,
-) -> Result<(), RowFault> {
-    match text_of(alloc, host, limit) {
-        Ok(text) if text.as_slice() == bytes => told.push_str("read")?,
-        Ok(_) => told.push_str("another text")?,
-        Err(error) => write!(told, "{error:?}")?,
+) -> Result<(), OutOfMemory> {
+    let answer = text_of(alloc, host, limit);
+    put_answer(answer, bytes, told)?;
+    write!(told, ", {} failed", host.faults().reads)
+}
+
+/// Adds an answer: whether these bytes were read, or why not.
+fn put_answer(
+    answer: Result<Vec<u8>, TextError>,
+    bytes: &[u8],
+    told: &mut String,
+) -> Result<(), OutOfMemory> {
+    match answer {
+        Ok(text) if text.as_slice() == bytes => told.push_str("read"),
+        Ok(_) => told.push_str("another text"),
+        Err(error) => write!(told, "{error:?}"),
     }
-    Ok(write!(told, ", {} failed", host.faults().reads)?)
 }
 
 /// The text of the input; a read fault also where it isn't opened.

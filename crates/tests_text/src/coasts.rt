@@ -4,7 +4,8 @@ ghost use Rattle.osm_text.specs.Coast.{HasItsKind};
 
 use osm_geom::Loc;
 use osm_text::{CoastLine, coast_line, is_error};
-use std::alloc::Global;
+use std::alloc::{AllocError as OutOfMemory, Global};
+use std::fmt::Write;
 use worked_form::{RowFault, first_word, number};
 
 /// Adds the line of a piece of so many points, as `large 5`, or of a ring that vanished at a location, as `4 4`.
@@ -12,25 +13,23 @@ pub(crate) fn put_coast(alloc: Global, words: &str, told: &mut String) -> Result
     let (first, second) = first_word(words);
     if first == "large" {
         let points = number(second)?;
-        return put_printed(alloc, &CoastLine::Large { points }, told);
+        return Ok(put_printed(alloc, &CoastLine::Large { points }, told)?);
     }
     let (x, y) = (
         first.parse().unwrap_or(i64::MAX),
         second.parse().unwrap_or(i64::MAX),
     );
     match Loc::new(x, y) {
-        Some(at) => put_printed(alloc, &CoastLine::Vanished { at }, told),
+        Some(at) => Ok(put_printed(alloc, &CoastLine::Vanished { at }, told)?),
         None => Err(RowFault("out of range")),
     }
 }
 
-/// Adds a line as it is printed. It is an error where its text says so.
-fn put_printed(alloc: Global, line: &CoastLine, told: &mut String) -> Result<(), RowFault>
+/// Adds a line as it is printed, and whether it is an error.
+fn put_printed(alloc: Global, line: &CoastLine, told: &mut String) -> Result<(), OutOfMemory>
     requires { HasItsKind line.now }
 {
     let text = coast_line(alloc, line)?;
-    if is_error(line) != text.as_slice().starts_with(b"error ") {
-        return Err(RowFault("an error that is told as a warning, or the reverse"));
-    }
-    crate::put_line(&text, told)
+    crate::put_line(&text, told)?;
+    write!(told, ", an error: {}", is_error(line))
 }

@@ -17,7 +17,7 @@ pub(crate) fn put_feature(
     let (id, shapes) = first_word(call.by);
     let tags = tags_of(alloc, call.str()?)?;
     let polygons = polygons_of(alloc, shapes)?;
-    put_printed(alloc, call.word, &polygons, &tags, id_of(id), told)
+    Ok(put_printed(alloc, call.word, &polygons, &tags, id_of(id), told)?)
 }
 
 /// Adds a feature as a line of text or as an object of GeoJSON.
@@ -28,14 +28,12 @@ fn put_printed(
     tags: &Tags,
     id: Option<FeatureId>,
     told: &mut String,
-) -> Result<(), RowFault> {
+) -> Result<(), OutOfMemory> {
     if form == "text" {
         return put_line(&feature_text(alloc, polygons, tags, id)?, told);
     }
-    match str::from_utf8(&feature_json(alloc, polygons, tags, id)?) {
-        Ok(object) => Ok(told.push_str(object)?),
-        Err(_) => Err(RowFault("an object that isn't UTF-8")),
-    }
+    let object = feature_json(alloc, polygons, tags, id)?;
+    told.push_str(str::from_utf8(&object).unwrap_or("no UTF-8"))
 }
 
 /// The id of a word such as `a11` or `1`.

@@ -3,7 +3,7 @@
 use crate::put_line;
 use crate::shapes::polygon_of;
 use osm_text::{Piece, PieceKind, piece_text};
-use std::alloc::Global;
+use std::alloc::{AllocError as OutOfMemory, Global};
 use std::fmt::Write;
 use worked_form::{RowFault, first_word};
 
@@ -16,11 +16,11 @@ pub(crate) fn put_piece(alloc: Global, words: &str, told: &mut String) -> Result
         PieceKind::Water
     };
     let polygon = polygon_of(alloc, shape)?;
-    put_printed(&piece_text(alloc, kind, &polygon)?, told)
+    Ok(put_printed(&piece_text(alloc, kind, &polygon)?, told)?)
 }
 
 /// Adds the line of a piece, and where rings of it vanish.
-fn put_printed(piece: &Piece, told: &mut String) -> Result<(), RowFault> {
+fn put_printed(piece: &Piece, told: &mut String) -> Result<(), OutOfMemory> {
     match &piece.text {
         Some(line) => put_line(line, told)?,
         None => told.push_str("none")?,
