@@ -42,8 +42,11 @@ foe_added exact seg foe old mid new v w held more out back s t = by (is_same_seg
 pub pair_added : (s t : Seg) (pairs : List Pair) (i : ℕ) (p : Pair) (old mid new : Bool) → i < length pairs → p ≡ get_or pairs i p → old ≡ list_any (are_paired s t) (take i pairs)
     → mid ≡ (old || (is_same_segment p.first s && is_same_segment p.second t)) → new ≡ (mid || (is_same_segment p.second s && is_same_segment p.first t)) → new ≡ list_any (are_paired s t) (take (i + 1) pairs)
 pair_added s t pairs i p old mid new h is inv one two =
-    let back = is_same_segment p.second s && is_same_segment p.first t in
-    any_step (are_paired s t) pairs i p old new h is inv (two ∙ (ap (λ b. b || back) one ∙ or_assoc old forth back))
+    any_step (are_paired s t) pairs i p old new h is inv (two ∙ (ap (λ b. b || (is_same_segment p.second s && is_same_segment p.first t)) one ∙ grouped old))
+  where
+    grouped : (b : Bool) → ((b || (is_same_segment p.first s && is_same_segment p.second t)) || (is_same_segment p.second s && is_same_segment p.first t)) ≡ (b || are_paired s t p)
+    grouped true = refl
+    grouped false = refl
 
 put_in : (b old : Bool) → cond b true old ≡ (old || b)
 put_in true true = refl

@@ -282,4 +282,4 @@ either_first n k first second = same_truth (list_any (λ (s : StepAlong). list_a
         let b = some_passes (λ (t : StepAlong). lies_between n a.item.place t.place k) first a.passes in
         any_from (λ (s : StepAlong). list_any (λ (t : StepAlong). lies_between n s.place t.place k) second) first b.item b.member
         (any_from (λ (t : StepAlong). lies_between n b.item.place t.place k) second a.item a.member
-        (swapped b.item.place a.item.place b.passes))
+        (swapped a.item.place b.item.place b.passes))
