@@ -1,11 +1,10 @@
 //! Tests of sides, rings, nesting and pieces: each row of standard input makes calls, whose answers it gives.
 #![tactic(auto)]
 
-mod bands;
 mod leaves;
 mod printing;
 
-use crate::printing::put_polygons;
+use crate::printing::{put_numbers, put_polygons};
 use std::alloc::Global;
 use std::io;
 use std::process::ExitCode;
@@ -23,7 +22,7 @@ impl Rows for Drawings {
             "polygons" => Ok(put_polygons(alloc, &sided(alloc, lines, by)?, told)?),
             "leaves" => leaves::put_leaves(alloc, lines, by, told),
             "count" => leaves::put_count(alloc, lines, by, told),
-            "bands" => bands::put_bands(alloc, text, told),
+            "numbers" => Ok(put_numbers(alloc, &sided(alloc, lines, by)?, told)?),
             _ => Err(RowFault("an unknown call")),
         }
     }
