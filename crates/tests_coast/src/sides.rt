@@ -1,90 +1,192 @@
 //! Rings of closed ways sorted out, and land and water about them.
-ghost use Rattle.coast_sides.specs.Segments.{all_segments};
-ghost use Rattle.coast_sides.specs.Land.{HaveNoConflicts};
 
-use crate::gaps::joined_of;
-use crate::printing::{put_edges, put_seg};
-use coast_join::{CoastRing, CoastWay};
+use crate::reading::joined_of;
+use coast_join::CoastRings;
 use coast_sides::{Land, Sorted, land, sort_out, water};
+use osm_geom::{Edge, Loc, Point, Seg};
 use std::alloc::{AllocError as OutOfMemory, Global};
-use std::fmt::Write;
+use std::test::Fail;
 
-/// Adds the answer of a call on the rings of closed ways.
-pub(crate) fn put_sides(
-    alloc: Global,
-    word: &str,
-    ways: &[CoastWay],
-    told: &mut String,
-) -> Result<(), OutOfMemory> {
-    let (_, joined) = joined_of(alloc, ways, 0)?;
-    put_sorted_out(alloc, word, joined.rings.as_slice(), told)
+/// The rings of closed coastline ways.
+fn rings_of(alloc: Global, lines: &str) -> Result<CoastRings, Fail> {
+    let (_, joined) = joined_of(alloc, lines, 0)?;
+    Ok(joined.rings)
 }
 
-/// Adds the answer of a call on rings.
-fn put_sorted_out(
-    alloc: Global,
-    word: &str,
-    rings: &[CoastRing],
-    told: &mut String,
-) -> Result<(), OutOfMemory> {
-    let sorted = sort_out(alloc, rings)?;
-    match word {
-        "sorted" => put_sorted(&sorted, told),
-        "land" => put_land(alloc, sorted.kept.as_slice(), told),
-        "water" => put_water(alloc, sorted.kept.as_slice(), told),
-        _ => told.push_str("an unknown call"),
+/// Whole degrees.
+fn degrees(alloc: Global, p: Loc) -> Result<String, OutOfMemory> {
+    format!(in alloc; "{} {}", p.x / 10_000_000, p.y / 10_000_000)
+}
+
+/// A point that is a location, in whole degrees; `?` for any other.
+fn point_in_degrees(alloc: Global, point: Point) -> Result<String, OutOfMemory> {
+    match point {
+        Point::Lattice(p) => degrees(alloc, p),
+        Point::OnVertical { .. } | Point::OnHorizontal { .. } => String::from_str(alloc, "?"),
     }
 }
 
-/// Adds the names of the rings that are kept, those that are left out, and the conflicting segments.
-fn put_sorted(sorted: &Sorted, told: &mut String) -> Result<(), OutOfMemory> {
-    put_names("kept", sorted.kept.as_slice(), told)?;
-    put_names("left out", sorted.left_out.as_slice(), told)?;
-    for pair in sorted.pairs.as_slice() {
-        put_seg(pair.first, told)?;
-        told.push_str(" and ")?;
-        put_seg(pair.second, told)?;
-        told.push('\n')?;
+/// The edges, each as its ends in whole degrees.
+fn edges_in_degrees(alloc: Global, edges: &[Edge]) -> Result<String, OutOfMemory> {
+    let mut told = String::new(alloc);
+    for &edge in edges {
+        told.push_str(&point_in_degrees(alloc, edge.from)?)?;
+        told.push_str(">")?;
+        told.push_str(&point_in_degrees(alloc, edge.to)?)?;
+        told.push_str(" ")?;
     }
-    Ok(())
+    Ok(told)
 }
 
-/// Adds a word and the names of rings.
-fn put_names(word: &str, rings: &[CoastRing], told: &mut String) -> Result<(), OutOfMemory> {
-    told.push_str(word)?;
-    for ring in rings {
-        write!(told, " {}", ring.name)?;
-    }
-    told.push('\n')
+/// The ends of a segment in whole degrees.
+fn segment_in_degrees(alloc: Global, seg: Seg) -> Result<String, OutOfMemory> {
+    let a = degrees(alloc, seg.a)?;
+    let b = degrees(alloc, seg.b)?;
+    format!(in alloc; "{},{} ", a.as_str(), b.as_str())
 }
 
-/// Adds the land of rings without conflicts: its edges, its repeats and the rings that run the wrong way.
-fn put_land(alloc: Global, kept: &[CoastRing], told: &mut String) -> Result<(), OutOfMemory>
-    requires { HaveNoConflicts (all_segments kept.now) }
-{
-    let land = land(alloc, kept)?;
-    put_edges(land.edges.as_slice(), told)?;
-    put_notes(&land, told)
+/// The names of the rings that are kept, those that are left out, and the conflicting segments.
+fn sorted_in_words(alloc: Global, sorted: &Sorted) -> Result<String, OutOfMemory> {
+    let mut told = String::from_str(alloc, "kept ")?;
+    for ring in sorted.kept.as_slice() {
+        told.push_str(&format!(in alloc; "{} ", ring.name)?)?;
+    }
+    told.push_str("left out ")?;
+    for ring in sorted.left_out.as_slice() {
+        told.push_str(&format!(in alloc; "{} ", ring.name)?)?;
+    }
+    for &pair in sorted.pairs.as_slice() {
+        told.push_str("of ")?;
+        told.push_str(&segment_in_degrees(alloc, pair.first)?)?;
+        told.push_str("and ")?;
+        told.push_str(&segment_in_degrees(alloc, pair.second)?)?;
+    }
+    Ok(told)
 }
 
-/// Adds the repeats of land and the rings that run the wrong way.
-fn put_notes(land: &Land, told: &mut String) -> Result<(), OutOfMemory> {
-    for repeat in land.repeats.as_slice() {
-        write!(told, "{} times ", repeat.times)?;
-        put_seg(repeat.seg, told)?;
-        told.push('\n')?;
+/// Land: its edges, its repeats and the rings that run the wrong way.
+fn land_in_words(alloc: Global, land: &Land) -> Result<String, OutOfMemory> {
+    let mut told = edges_in_degrees(alloc, land.edges.as_slice())?;
+    for &repeat in land.repeats.as_slice() {
+        told.push_str(&format!(in alloc; "{} times ", repeat.times)?)?;
+        told.push_str(&segment_in_degrees(alloc, repeat.seg)?)?;
     }
-    for name in land.wrong_way.as_slice() {
-        write!(told, "wrong way {name}\n")?;
+    for &name in land.wrong_way.as_slice() {
+        told.push_str(&format!(in alloc; "wrong way {} ", name)?)?;
     }
-    Ok(())
+    Ok(told)
 }
 
-/// Adds the edges of the water about rings without conflicts.
-fn put_water(alloc: Global, kept: &[CoastRing], told: &mut String) -> Result<(), OutOfMemory>
-    requires { HaveNoConflicts (all_segments kept.now) }
-{
-    let land = land(alloc, kept)?;
+/// Whether the rings of closed ways are sorted out so.
+fn are_sorted(alloc: Global, lines: &str, wanted: &str) -> Result<bool, Fail> {
+    let rings = rings_of(alloc, lines)?;
+    let sorted = sort_out(alloc, rings.as_slice())?;
+    Ok(sorted_in_words(alloc, &sorted)?.as_str() == wanted)
+}
+
+/// Whether this is the land of those that are kept.
+fn is_land(alloc: Global, lines: &str, wanted: &str) -> Result<bool, Fail> {
+    let rings = rings_of(alloc, lines)?;
+    let sorted = sort_out(alloc, rings.as_slice())?;
+    let land = land(alloc, sorted.kept.as_slice())?;
+    Ok(land_in_words(alloc, &land)?.as_str() == wanted)
+}
+
+/// Whether this is the water about them.
+fn is_water(alloc: Global, lines: &str, wanted: &str) -> Result<bool, Fail> {
+    let rings = rings_of(alloc, lines)?;
+    let sorted = sort_out(alloc, rings.as_slice())?;
+    let land = land(alloc, sorted.kept.as_slice())?;
     let water = water(alloc, &land.edges)?;
-    put_edges(water.as_slice(), told)
+    Ok(edges_in_degrees(alloc, water.as_slice())?.as_str() == wanted)
+}
+
+#[test]
+fn rings_are_sorted_out(rt: HostRuntime) -> Result<(), Fail> {
+    let bow_tie = "n1 x0 y0\nn2 x2 y2\nn3 x2 y0\nn4 x0 y2\nw1 Tnatural=coastline Nn1,n2,n3,n4,n1";
+    let within =
+        "n1 x0 y0\nn2 x9 y0\nn3 x9 y9\nn4 x2 y1\nn5 x8 y1\nn6 x8 y5\nw1 Tnatural=coastline Nn1,n2,n3,n1\nw2 Tnatural=coastline Nn4,n5,n6,n4";
+    let hidden =
+        "n1 x0 y0\nn2 x2 y0\nn3 x2 y2\nn4 x0 y2\nn5 x4 y0\nn6 x4 y2\nn7 x1.5 y1\nn8 x2.5 y1\nn9 x2.25 y1.5\nw1 Tnatural=coastline Nn1,n2,n3,n4,n1\nw2 Tnatural=coastline Nn2,n5,n6,n3,n2\nw3 Tnatural=coastline Nn7,n8,n9,n7";
+    let rows = [
+        (bow_tie, "kept left out 1 of 0 0,2 2 and 2 0,0 2 "),
+        (within, "kept 1 2 left out "),
+        (
+            hidden,
+            "kept left out 1 2 3 of 2 0,2 2 and 1 1,2 1 of 2 0,2 2 and 1 1,2 1 ",
+        ),
+    ];
+    for (text, told) in rows {
+        assert!(rt; are_sorted(rt.alloc(), text, told)?, "of {text}");
+    }
+    Ok(())
+}
+
+#[test]
+fn land_is_on_the_left(rt: HostRuntime) -> Result<(), Fail> {
+    let island = "n1 x0 y0\nn2 x5 y0\nn3 x5 y5\nw1 Tnatural=coastline Nn1,n2,n3,n1";
+    let turned = "n1 x0 y0\nn2 x5 y0\nn3 x5 y5\nw1 Tnatural=coastline Nn1,n3,n2,n1";
+    let both =
+        "n1 x0 y0\nn2 x2 y0\nn3 x2 y2\nn4 x4 y2\nw1 Tnatural=coastline Nn1,n2,n3,n1\nw2 Tnatural=coastline Nn3,n2,n4,n3";
+    let along =
+        "n1 x0 y0\nn2 x2 y0\nn3 x2 y2\nn4 x4 y2\nw1 Tnatural=coastline Nn1,n2,n3,n1\nw2 Tnatural=coastline Nn2,n3,n4,n2";
+    let within =
+        "n1 x0 y0\nn2 x9 y0\nn3 x9 y9\nn4 x2 y1\nn5 x8 y1\nn6 x8 y5\nw1 Tnatural=coastline Nn1,n2,n3,n1\nw2 Tnatural=coastline Nn4,n5,n6,n4";
+    let rows = [
+        (island, "0 0>5 0 5 5>0 0 5 0>5 5 "),
+        (turned, "0 0>5 0 5 5>0 0 5 0>5 5 wrong way 1 "),
+        (both, "0 0>2 0 2 2>0 0 2 0>4 2 4 2>2 2 2 times 2 0,2 2 "),
+        (
+            along,
+            "0 0>2 0 2 2>0 0 2 0>4 2 4 2>2 2 2 times 2 0,2 2 wrong way 2 ",
+        ),
+        (
+            within,
+            "0 0>9 0 9 9>0 0 9 0>9 9 8 1>2 1 2 1>8 5 8 5>8 1 wrong way 2 ",
+        ),
+    ];
+    for (text, told) in rows {
+        assert!(rt; is_land(rt.alloc(), text, told)?, "of {text}");
+    }
+    Ok(())
+}
+
+#[test]
+fn water_is_the_rest_of_the_world(rt: HostRuntime) -> Result<(), Fail> {
+    let none = "n1 x0 y0";
+    let island = "n1 x0 y0\nn2 x5 y0\nn3 x5 y5\nw1 Tnatural=coastline Nn1,n2,n3,n1";
+    let world =
+        "n1 x-180 y-90\nn2 x180 y-90\nn3 x180 y90\nn4 x-180 y90\nw1 Tnatural=coastline Nn1,n2,n3,n4,n1";
+    let sides =
+        "n1 x0 y-90\nn2 x180 y0\nn3 x0 y90\nn4 x-180 y0\nw1 Tnatural=coastline Nn1,n2,n3,n4,n1";
+    let corner = "n1 x-180 y-90\nn2 x0 y0\nn3 x-90 y0\nw1 Tnatural=coastline Nn1,n2,n3,n1";
+    let south =
+        "n1 x180 y-70\nn2 x0 y-65\nn3 x-180 y-70\nn4 x-180 y-90\nn5 x180 y-90\nw1 Tnatural=coastline Nn1,n2,n3,n4,n5,n1";
+    let rows = [
+        (
+            none,
+            "-180 -90>180 -90 -180 90>-180 -90 180 -90>180 90 180 90>-180 90 ",
+        ),
+        (
+            island,
+            "-180 -90>180 -90 -180 90>-180 -90 180 -90>180 90 5 0>0 0 0 0>5 5 5 5>5 0 180 90>-180 90 ",
+        ),
+        (world, ""),
+        (
+            sides,
+            "-180 -90>0 -90 -180 0>-180 -90 0 -90>180 -90 0 -90>-180 0 180 0>0 -90 180 -90>180 0 -180 90>-180 0 -180 0>0 90 0 90>180 0 180 0>180 90 0 90>-180 90 180 90>0 90 ",
+        ),
+        (
+            corner,
+            "-180 -90>180 -90 -180 -90>-90 0 0 0>-180 -90 -180 90>-180 -90 180 -90>180 90 -90 0>0 0 180 90>-180 90 ",
+        ),
+        (
+            south,
+            "-180 -70>0 -65 -180 90>-180 -70 0 -65>180 -70 180 -70>180 90 180 90>-180 90 ",
+        ),
+    ];
+    for (text, told) in rows {
+        assert!(rt; is_water(rt.alloc(), text, told)?, "of {text}");
+    }
+    Ok(())
 }

@@ -12,14 +12,13 @@ use osm_host::{Failed, Faults, Host, NO_FAULTS, note_fault};
 use std::alloc::{AllocError as OutOfMemory, Global};
 use std::marker::Model;
 
-/// A host over memory. It has named inputs, names of outputs that exist already, and numbers of calls that fail.
+/// A host over memory: named inputs, names of outputs that are there already, numbers of calls to fail, the most
+/// bytes of a read or write, and a room in bytes.
 ///
-/// It also has the most bytes of a read or write, and a room in bytes. All calls of [`Host`] are numbered from 1. A write
-/// takes as many bytes as the piece, `most` and the room allow, and the room falls by them. An open takes its name's length
-/// and one more from the room. It is listed, even if it fails, unless the room is too small for it.
-///
-/// `-` is a name like any other, but an output `-` is never refused because it exists. Once the room is reserved, no call of
-/// [`Host`] takes memory.
+/// All calls of [`Host`] are numbered from 1. A write takes as many bytes as the piece, `most` and the room allow, and
+/// the room falls by them. An open takes its name's length and one more off the room and is listed, also where it
+/// fails, unless the room is too small for it. `-` is a name like any other, but an output `-` is never refused for
+/// being there. Once the room is reserved, no call of [`Host`] takes memory.
 #[derive(Drop)]
 pub struct MemoryHost {
     alloc: Global,

@@ -61,9 +61,8 @@ fn first_difference(list: &ChunkedList<u64>, plain: &[u64]) -> Option<usize> {
     }
 }
 
-/// A list is changed in its middle, at its ends, and through chunks that are split and dropped; items are replaced.
-///
-/// A plain `Vec` says what the list must be.
+/// A list is changed in its middle, at its ends and through chunks that are parted and dropped, and items are put in the
+/// place of others; a plain `Vec` is what it has to be.
 #[test]
 fn a_list_in_chunks_is_a_list(rt: HostRuntime) -> Result<(), Fail> {
     let mut list = ChunkedList::new(rt.alloc());

@@ -1,6 +1,6 @@
-//! Odd, distinct and repeated items of small lists, each item once, and what is among items in order.
+//! Odd, distinct and repeated items of small lists.
 
-use lists::{Tally, distinct_items, each_once, is_among, odd_items, repeated_items};
+use lists::{Tally, distinct_items, odd_items, repeated_items};
 use std::alloc::Global;
 use std::test::Fail;
 
@@ -32,21 +32,5 @@ fn repeated_items_with_their_numbers(rt: HostRuntime) -> Result<(), Fail> {
     let tallies = [Tally { item: 2, times: 2 }, Tally { item: 3, times: 4 }];
     let found = repeated_items(rt.alloc(), &items)?;
     assert_eq!(rt; found.as_slice(), tallies.as_slice());
-    Ok(())
-}
-
-#[test]
-fn each_item_once(rt: HostRuntime) -> Result<(), Fail> {
-    let found = each_once(rt.alloc(), &[3, -1, 3, 2, 2, -1, 5])?;
-    assert!(rt; found.as_slice() == [3, -1, 2, 5].as_slice());
-    Ok(())
-}
-
-#[test]
-fn items_among_those_in_order(rt: HostRuntime) -> Result<(), Fail> {
-    let rows = [(-4, true), (-3, false), (0, true), (7, true), (8, false)];
-    for (item, among) in rows {
-        assert!(rt; is_among(&[-4, 0, 0, 7], &item) == among, "{item}");
-    }
     Ok(())
 }

@@ -1,35 +1,62 @@
-//! Orders of edges, each along a segment or against it.
+//! Edges and their directions on numbers worked out by hand.
 
-use crate::parts;
-use crate::points::point;
+use crate::reading::{height, seg};
 use osm_geom::{Edge, Point, clockwise, compare_just_above, spans_height};
-use std::alloc::AllocError as OutOfMemory;
-use std::fmt::Write;
-use tests_drawing::seg;
-use worked_form::RowFault;
+use std::cmp::Ordering;
+use std::test::Fail;
 
-/// Adds the order of two edges: just above the height of a point where both span it, or clockwise from the direction of a third.
-pub(crate) fn answer(word: &str, text: &str, told: &mut String) -> Result<(), RowFault> {
-    let (first, others) = parts(text);
-    let (second, third) = parts(others);
-    let (e, f) = (edge(first)?, edge(second)?);
-    if word == "above" {
-        return Ok(put_above(&e, &f, &point(third)?, told)?);
+/// The order of two edges where both span the height.
+fn just_above(e: &Edge, f: &Edge, at: &Point) -> Option<Ordering> {
+    if spans_height(e, at) && spans_height(f, at) {
+        Some(compare_just_above(e, f, at))
+    } else {
+        None
     }
-    let from = edge(third)?.dir();
-    Ok(write!(told, "{:?}", clockwise(from, e.dir(), f.dir()))?)
 }
 
-/// The edge of words such as `up 0,0 1,1`.
-fn edge(words: &str) -> Result<Edge, RowFault> {
-    let (way, ends) = words.split_once(' ').unwrap_or((words, ""));
-    Ok(Edge::of(seg(ends)?, way == "up"))
+/// The order just above a height of edges along segments, the first upwards, the second downwards.
+fn order_above(first: &str, second: &str, at: &str) -> Result<Option<Ordering>, Fail> {
+    let (e, f) = (Edge::of(seg(first)?, true), Edge::of(seg(second)?, false));
+    Ok(just_above(&e, &f, &height(at)?))
 }
 
-/// Adds the order of two edges just above a height, where both span it.
-fn put_above(e: &Edge, f: &Edge, at: &Point, told: &mut String) -> Result<(), OutOfMemory> {
-    if !spans_height(e, at) || !spans_height(f, at) {
-        return told.push_str("none");
+#[test]
+fn order_just_above_heights(rt: HostRuntime) -> Result<(), Fail> {
+    let rows = [
+        ("0,0 0,4", "2,0 2,4", "0", Some(Ordering::Less)),
+        ("2,0 0,2", "0,0 2,2", "half", Some(Ordering::Greater)),
+        ("2,0 0,2", "0,0 2,2", "1", Some(Ordering::Less)),
+        ("0,0 2,2", "0,0 2,1", "half", Some(Ordering::Less)),
+        ("0,0 2,4", "0,0 1,2", "half", Some(Ordering::Equal)),
+        ("0,0 0,2", "1,0 1,4", "2", None),
+        ("0,0 4,0", "1,0 1,4", "0", None),
+    ];
+    for (first, second, at, order) in rows {
+        let found = order_above(first, second, at)?;
+        assert_eq!(rt; found, order, "{first} and {second} at {at}");
     }
-    write!(told, "{:?}", compare_just_above(e, f, at))
+    Ok(())
+}
+
+/// The order of two edges clockwise from the direction to the east, each along a segment or against it.
+fn turned(first: &str, up: bool, second: &str, second_up: bool) -> Result<Ordering, Fail> {
+    let from = Edge::of(seg("0,0 1,0")?, true).dir();
+    let d = Edge::of(seg(first)?, up).dir();
+    let e = Edge::of(seg(second)?, second_up).dir();
+    Ok(clockwise(from, d, e))
+}
+
+#[test]
+fn clockwise_from_a_direction(rt: HostRuntime) -> Result<(), Fail> {
+    let rows = [
+        ("0,0 1,1", false, "0,0 1,1", true, Ordering::Less),
+        ("0,0 0,1", false, "0,0 1,0", false, Ordering::Less),
+        ("0,0 1,0", true, "0,0 0,1", true, Ordering::Greater),
+        ("0,0 1,2", true, "0,0 2,4", true, Ordering::Equal),
+    ];
+    for (first, up, second, second_up, order) in rows {
+        let found = turned(first, up, second, second_up)?;
+        assert_eq!(rt; found, order, "{first} and {second}");
+    }
+    Ok(())
 }

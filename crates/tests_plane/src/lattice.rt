@@ -1,79 +1,220 @@
-//! Locations, segments and fractions.
+//! Locations, segments and fractions on numbers worked out by hand.
 
-use crate::parts;
-use osm_lattice::{Frac, Kind, Seg, compare_to_line, conflict, meeting, orient, overlap, round};
-use std::alloc::AllocError as OutOfMemory;
-use std::fmt::Write;
-use tests_drawing::{loc, put_seg, seg};
-use worked_form::RowFault;
+use crate::reading::{at, loc, seg};
+use osm_lattice::{
+    Frac, Kind, Loc, Seg, compare_to_line, conflict, meeting, orient, overlap, round,
+};
+use std::cmp::Ordering;
+use std::test::Fail;
 
-/// Adds the answer of a call on locations, a segment or a fraction.
-pub(crate) fn answer(word: &str, text: &str, told: &mut String) -> Result<(), RowFault> {
-    match word {
-        "valid" => Ok(put_valid(text, told)?),
-        "segment" => Ok(put_seg(seg(text)?, told)?),
-        "orientation" => put_orientation(text, told),
-        "side" => put_side(text, told),
-        _ => put_rounded(text, told),
+/// The longitude of the antimeridian and the latitude of a pole, in units of 1e-7 degree.
+const WEST: i64 = -1_800_000_000;
+
+const EAST: i64 = 1_800_000_000;
+
+const SOUTH: i64 = -900_000_000;
+
+const NORTH: i64 = 900_000_000;
+
+const CROSSING: Option<Kind> = Some(Kind::Crossing);
+
+const OVERLAP: Option<Kind> = Some(Kind::Overlap);
+
+/// The diagonals of the world.
+const RISING: &str = "-1800000000,-900000000 1800000000,900000000";
+
+const FALLING: &str = "1800000000,-900000000 -1800000000,900000000";
+
+#[test]
+fn ranges_of_locations(rt: HostRuntime) {
+    let rows = [
+        (WEST, SOUTH, true),
+        (EAST, NORTH, true),
+        (WEST - 1, 0, false),
+        (EAST + 1, 0, false),
+        (0, SOUTH - 1, false),
+        (0, NORTH + 1, false),
+    ];
+    for (x, y, valid) in rows {
+        assert_eq!(rt; Loc::new(x, y).is_some(), valid, "at {x} {y}");
     }
 }
 
-/// Adds whether two numbers are those of a location, or two locations the ends of a segment.
-fn put_valid(text: &str, told: &mut String) -> Result<(), OutOfMemory> {
-    let is_valid = if text.contains(' ') {
-        seg(text).is_ok()
-    } else {
-        loc(text).is_ok()
-    };
-    write!(told, "{is_valid}")
-}
-
-/// Adds the orientation of three locations.
-fn put_orientation(text: &str, told: &mut String) -> Result<(), RowFault> {
-    let (first, others) = text.split_once(' ').unwrap_or((text, ""));
-    let (second, third) = others.split_once(' ').unwrap_or((others, ""));
-    let number = orient(loc(first)?, loc(second)?, loc(third)?);
-    Ok(write!(told, "{number}")?)
-}
-
-/// Adds the side on which a location lies of a segment.
-fn put_side(text: &str, told: &mut String) -> Result<(), RowFault> {
-    let (p, ends) = parts(text);
-    let side = compare_to_line(loc(p)?, seg(ends)?);
-    Ok(write!(told, "{side:?}")?)
-}
-
-/// Adds a fraction rounded, if its numerator is a coordinate's.
-fn put_rounded(text: &str, told: &mut String) -> Result<(), RowFault> {
-    let (num, den) = text.split_once('/').unwrap_or((text, ""));
-    let num: i64 = num.parse().unwrap_or(i64::MAX);
-    let den: u64 = den.parse().unwrap_or(0);
-    if den == 0 || num.unsigned_abs() > 3_600_000_000 {
-        return Err(RowFault("no fraction of coordinates"));
+#[test]
+fn segments_from_their_lesser_end(rt: HostRuntime) -> Result<(), Fail> {
+    let rows = [
+        ("9,0 0,1", "9,0"),
+        ("0,1 9,0", "9,0"),
+        ("9,0 5,1", "9,0"),
+        ("5,1 9,0", "9,0"),
+        ("5,1 0,1", "0,1"),
+    ];
+    for (ends, lesser) in rows {
+        assert_eq!(rt; seg(ends)?.a, loc(lesser)?, "{ends}");
     }
-    let rounded = round(Frac::new(i128::from(num), den));
-    Ok(write!(told, "{rounded}")?)
+    assert!(rt; Seg::new(loc("0,1")?, loc("0,1")?).is_none());
+    assert!(rt; seg("0,0 1,0")? < seg("0,0 0,1")?);
+    Ok(())
 }
 
-/// Adds the order of two segments, how they conflict, or what they share.
-pub(crate) fn put_two(word: &str, text: &str, told: &mut String) -> Result<(), RowFault> {
-    let (first, second) = parts(text);
+#[test]
+fn orientations(rt: HostRuntime) -> Result<(), Fail> {
+    let half_world: i128 = 6_480_000_000_000_000_000;
+    let rows = [
+        ([0, 0, 4, 0, 2, 3], 12),
+        ([0, 0, 4, 0, 2, -3], -12),
+        ([0, 0, 4, 2, 2, 1], 0),
+        ([WEST, SOUTH, EAST, SOUTH, EAST, NORTH], half_world),
+        ([WEST, NORTH, EAST, NORTH, EAST, SOUTH], -half_world),
+    ];
+    for ([ax, ay, bx, by, cx, cy], want) in rows {
+        let found = orient(at(ax, ay)?, at(bx, by)?, at(cx, cy)?);
+        assert_eq!(rt; found, want, "of {ax},{ay} {bx},{by} {cx},{cy}");
+    }
+    Ok(())
+}
+
+#[test]
+fn sides_of_lines(rt: HostRuntime) -> Result<(), Fail> {
+    let rows = [
+        ("0,0 4,2", "2,2", Ordering::Less),
+        ("0,0 4,2", "8,4", Ordering::Equal),
+        ("0,0 4,2", "2,0", Ordering::Greater),
+        (RISING, "-1800000000,900000000", Ordering::Less),
+        (FALLING, "0,0", Ordering::Equal),
+        (RISING, "1800000000,-900000000", Ordering::Greater),
+    ];
+    for (ends, p, side) in rows {
+        assert_eq!(rt; compare_to_line(loc(p)?, seg(ends)?), side, "{p} of {ends}");
+    }
+    Ok(())
+}
+
+/// Whether two segments conflict so, either way round.
+fn is_conflict(first: &str, second: &str, kind: Option<Kind>) -> Result<bool, Fail> {
     let (s, t) = (seg(first)?, seg(second)?);
-    match word {
-        "order" => Ok(write!(told, "{:?}", s.cmp(&t))?),
-        "conflict" => Ok(write!(told, "{:?} {:?}", conflict(s, t), conflict(t, s))?),
-        _ => Ok(put_shared(s, t, told)?),
-    }
+    Ok(conflict(s, t) == kind && conflict(t, s) == kind)
 }
 
-/// Adds the x and the y in which two segments cross, as fractions, or the segment that they share.
-fn put_shared(s: Seg, t: Seg, told: &mut String) -> Result<(), OutOfMemory> {
+#[test]
+fn kinds_of_conflict(rt: HostRuntime) -> Result<(), Fail> {
+    let rows = [
+        ("equal", "0,0 1,1", "1,1 0,0", None),
+        ("touching ends", "0,0 1,1", "1,1 2,0", None),
+        ("apart", "0,0 1,1", "3,0 0,3", None),
+        ("parallel", "0,0 4,4", "0,1 4,5", None),
+        ("in line, apart", "0,0 1,0", "2,0 3,0", None),
+        ("in line, touching", "0,0 1,0", "1,0 3,0", None),
+        ("an end inside", "0,0 4,0", "2,0 2,2", CROSSING),
+        ("crossing", "0,0 2,2", "0,2 2,0", CROSSING),
+        ("diagonals of the world", RISING, FALLING, CROSSING),
+        ("in line, inside", "0,0 4,0", "1,0 3,0", OVERLAP),
+        ("in line from one end", "0,0 0,4", "0,0 0,2", OVERLAP),
+        ("in line, shifted", "0,0 4,4", "2,2 6,6", OVERLAP),
+    ];
+    for (name, first, second, kind) in rows {
+        assert!(rt; is_conflict(first, second, kind)?, "{name}");
+    }
+    Ok(())
+}
+
+/// The x and the y in which two segments cross, each as a numerator and a denominator.
+fn meeting_of(first: &str, second: &str) -> Result<[(i128, u64); 2], Fail> {
+    let (s, t) = (seg(first)?, seg(second)?);
     match conflict(s, t) {
         Some(Kind::Crossing) => {
             let (x, y) = meeting(s, t);
-            write!(told, "{}/{},{}/{}", x.num, x.den, y.num, y.den)
+            Ok([(x.num, x.den), (y.num, y.den)])
         }
-        Some(Kind::Overlap) => put_seg(overlap(s, t), told),
-        None => told.push_str("nothing"),
+        _ => Err(Fail::new("no crossing")),
+    }
+}
+
+#[test]
+fn meeting_points(rt: HostRuntime) -> Result<(), Fail> {
+    let third = (10_000_000, 3);
+    let rows = [
+        (
+            "bow tie",
+            "0,0 10000000,10000000",
+            "10000000,0 0,5000000",
+            [third, third],
+        ),
+        (
+            "in general",
+            "-3,-1 2,1",
+            "-1,1 0,-2",
+            [(-11, 17), (-1, 17)],
+        ),
+        ("whole world", RISING, FALLING, [(0, 1), (0, 1)]),
+    ];
+    for (name, first, second, point) in rows {
+        assert_eq!(rt; meeting_of(first, second)?, point, "{name}");
+    }
+    Ok(())
+}
+
+#[test]
+fn meeting_points_with_whole_coordinates(rt: HostRuntime) -> Result<(), Fail> {
+    let rows = [
+        ("crossing", "0,0 2,2", "0,2 2,0", [(1, 1), (1, 1)]),
+        ("an end inside", "0,0 4,0", "1,0 2,2", [(1, 1), (0, 1)]),
+    ];
+    for (name, first, second, point) in rows {
+        assert_eq!(rt; meeting_of(first, second)?, point, "{name}");
+    }
+    Ok(())
+}
+
+/// What two overlapping segments share.
+fn shared(first: &str, second: &str) -> Result<Seg, Fail> {
+    let (s, t) = (seg(first)?, seg(second)?);
+    match conflict(s, t) {
+        Some(Kind::Overlap) => Ok(overlap(s, t)),
+        _ => Err(Fail::new("no overlap")),
+    }
+}
+
+#[test]
+fn shared_segments(rt: HostRuntime) -> Result<(), Fail> {
+    let rows = [
+        ("0,0 4,0", "1,0 3,0", "1,0 3,0"),
+        ("0,0 4,4", "6,6 2,2", "2,2 4,4"),
+        ("0,0 0,2", "0,4 0,0", "0,0 0,2"),
+    ];
+    for (first, second, wanted) in rows {
+        assert_eq!(rt;
+            shared(first, second)?,
+            seg(wanted)?,
+            "of {first} and {second}"
+        );
+    }
+    Ok(())
+}
+
+/// A fraction rounded, if it has a denominator and its numerator is a coordinate's.
+fn rounded(num: i128, den: u64) -> Option<i64> {
+    if den == 0 || num.unsigned_abs() > 3_600_000_000 {
+        return None;
+    }
+    Some(round(Frac::new(num, den)))
+}
+
+#[test]
+fn rounding(rt: HostRuntime) {
+    let rows = [
+        (1, 2, 1),
+        (-1, 2, 0),
+        (-3, 2, -1),
+        (1, 3, 0),
+        (2, 3, 1),
+        (-2, 3, -1),
+        (5, 2, 3),
+        (9, 4, 2),
+        (10_000_000, 3, 3_333_333),
+        (-3_600_000_000, 1, -3_600_000_000),
+    ];
+    for (num, den, want) in rows {
+        assert_eq!(rt; rounded(num, den), Some(want), "{num}/{den}");
     }
 }

@@ -1,14 +1,13 @@
-//! An input that is read as one text.
+//! An input that is read as one text: its end, its limit, and a failed read at each place.
 
 use osm_host::Host;
 use osm_input::{TextError, read_text};
 use std::alloc::{AllocError as OutOfMemory, Global};
-use std::fmt::Write;
+use std::test::Fail;
 use tests_host::MemoryHost;
-use worked_form::{RowFault, first_word, number};
 
 /// So many bytes, not all alike.
-fn bytes_of(alloc: Global, count: u64) -> Result<Vec<u8>, OutOfMemory> {
+fn bytes_of(alloc: Global, count: usize) -> Result<Vec<u8>, OutOfMemory> {
     let mut bytes = Vec::new(alloc);
     for index in 0..count {
         bytes.push((index % 251) as u8)?;
@@ -16,49 +15,14 @@ fn bytes_of(alloc: Global, count: u64) -> Result<Vec<u8>, OutOfMemory> {
     Ok(bytes)
 }
 
-/// Adds what comes of reading an input of so many bytes, at most so many at a time, within a limit, where the call of a number fails:
-/// the first read is the second call.
-pub(crate) fn put_text(alloc: Global, words: &str, told: &mut String) -> Result<(), RowFault> {
-    let (count, others) = first_word(words);
-    let (most, others) = first_word(others);
-    let (limit, fail) = first_word(others);
-    let bytes = bytes_of(alloc, number(count)?)?;
-    let mut host = MemoryHost::new(alloc, (number(most)? as usize).max(1));
-    prepare(&mut host, &bytes, number(fail)?)?;
-    Ok(put_read(alloc, &mut host, limit.parse().unwrap_or(0), &bytes, told)?)
-}
-
-/// Gives a host an input of these bytes, and the number of the call that fails.
-fn prepare(host: &mut MemoryHost, bytes: &[u8], fail: u64) -> Result<(), OutOfMemory> {
+/// A host whose input has these bytes, and whose call of this number fails: the first read is the second call.
+fn host_of(alloc: Global, bytes: &[u8], most: usize, fail: u64) -> Result<MemoryHost, OutOfMemory> {
+    // Each `most` below is at least 1, which the check can't read off a table.
+    let mut host = MemoryHost::new(alloc, most.max(1));
     host.add_input("text", bytes)?;
     host.fail_at(fail)?;
-    host.reserve(9)
-}
-
-/// Adds what comes of reading the input of a host within a limit, and how many reads failed.
-fn put_read(
-    alloc: Global,
-    host: &mut MemoryHost,
-    limit: u32,
-    bytes: &[u8],
-    told: &mut String,
-) -> Result<(), OutOfMemory> {
-    let answer = text_of(alloc, host, limit);
-    put_answer(answer, bytes, told)?;
-    write!(told, ", {} failed", host.faults().reads)
-}
-
-/// Adds an answer: whether these bytes were read, or why not.
-fn put_answer(
-    answer: Result<Vec<u8>, TextError>,
-    bytes: &[u8],
-    told: &mut String,
-) -> Result<(), OutOfMemory> {
-    match answer {
-        Ok(text) if text.as_slice() == bytes => told.push_str("read"),
-        Ok(_) => told.push_str("another text"),
-        Err(error) => write!(told, "{error:?}"),
-    }
+    host.reserve(9)?;
+    Ok(host)
 }
 
 /// The text of the input; a read fault also where it isn't opened.
@@ -67,4 +31,55 @@ fn text_of(alloc: Global, host: &mut MemoryHost, limit: u32) -> Result<Vec<u8>, 
         return Err(TextError::ReadFault);
     };
     read_text(alloc, host, u64::from(limit))
+}
+
+#[test]
+fn a_text_is_read_within_its_limit(rt: HostRuntime) -> Result<(), Fail> {
+    // bytes, the most of a read, the limit, and whether they keep it
+    let rows: [(usize, usize, u32, bool); 11] = [
+        (0, 9, 0, true),
+        (0, 9, 7, true),
+        (5, 9, 7, true),
+        (5, 2, 5, true),
+        (5, 9, 5, true),
+        (5, 2, 4, false),
+        (5, 9, 4, false),
+        (5, 9, 0, false),
+        (131_073, 200_000, 131_073, true),
+        (131_073, 200_000, 131_072, false),
+        (131_073, 40_000, 131_073, true),
+    ];
+    for (count, most, limit, keeps) in rows {
+        let bytes = bytes_of(rt.alloc(), count)?;
+        let mut host = host_of(rt.alloc(), &bytes, most, 0)?;
+        match text_of(rt.alloc(), &mut host, limit) {
+            Ok(text) => assert!(rt; keeps && text == bytes, "{count} bytes, limit {limit}"),
+            Err(error) => {
+                assert!(rt; !keeps, "{count} bytes, limit {limit}");
+                let limit = u64::from(limit);
+                assert_eq!(rt; error, TextError::TooMuchInput { limit });
+            }
+        }
+        assert_eq!(rt; host.faults().reads, 0);
+    }
+    Ok(())
+}
+
+#[test]
+fn a_failed_read_ends_the_reading_of_a_text(rt: HostRuntime) -> Result<(), Fail> {
+    // five bytes, two at a time: the fourth read shows the end
+    let bytes = bytes_of(rt.alloc(), 5)?;
+    for fail in 2..7 {
+        let mut host = host_of(rt.alloc(), &bytes, 2, fail)?;
+        match text_of(rt.alloc(), &mut host, 5) {
+            Ok(text) => assert!(rt; fail == 6 && text == bytes, "call {fail}"),
+            Err(error) => { assert!(rt; fail < 6 && error == TextError::ReadFault, "call {fail}") }
+        }
+        assert_eq!(rt;
+            host.faults().reads,
+            if fail < 6 { 1 } else { 0 },
+            "call {fail}"
+        );
+    }
+    Ok(())
 }

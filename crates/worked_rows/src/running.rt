@@ -1,9 +1,10 @@
 //! A row's run over a host in memory, and where it differs from what is wanted.
 
+use crate::form::{BlockFault, Field, find, first_word};
 use osm_cli::{Ended, command_of, run, status};
 use std::alloc::{AllocError as OutOfMemory, Global};
+use std::fmt::Write;
 use tests_host::MemoryHost;
-use worked_form::{Field, RowFault, first_word, number, said, tell, text_of};
 
 /// The host's room for what is written.
 const ROOM: usize = 65536;
@@ -13,8 +14,8 @@ pub(crate) fn tell_run(
     alloc: Global,
     fields: &[Field<'_>],
     told: &mut String,
-) -> Result<(), RowFault> {
-    let digits = said_or(fields, "most", "65536");
+) -> Result<(), BlockFault> {
+    let digits = said(fields, "most").unwrap_or("65536");
     let most = number(digits)?;
     let mut host = MemoryHost::new(alloc, (most as usize).max(1));
     run_over(alloc, fields, &mut host, told)
@@ -26,12 +27,12 @@ fn run_over(
     fields: &[Field<'_>],
     host: &mut MemoryHost,
     told: &mut String,
-) -> Result<(), RowFault> {
+) -> Result<(), BlockFault> {
     host.reserve(ROOM)?;
     for field in fields {
         prepare(field, host)?;
     }
-    let words = words_of(alloc, said(fields, "words"))?;
+    let words = words_of(alloc, said(fields, "words").unwrap_or(""))?;
     tell_differences(alloc, fields, &words, host, told)
 }
 
@@ -42,10 +43,10 @@ fn tell_differences(
     words: &[String],
     host: &mut MemoryHost,
     told: &mut String,
-) -> Result<(), RowFault> {
+) -> Result<(), BlockFault> {
     let ended = run(alloc, words, host);
     let status = status(command_of(words), &ended);
-    let ends = said_or(fields, "ends", "0");
+    let ends = said(fields, "ends").unwrap_or("0");
     tell_ending(alloc, ends, status, ended, told)?;
     tell("out", text_of(fields, "out"), host.out(), told)?;
     tell("report", text_of(fields, "report"), host.report(), told)?;
@@ -53,7 +54,7 @@ fn tell_differences(
 }
 
 /// Gives a host what a field says of it.
-fn prepare(field: &Field<'_>, host: &mut MemoryHost) -> Result<(), RowFault> {
+fn prepare(field: &Field<'_>, host: &mut MemoryHost) -> Result<(), BlockFault> {
     match field.word {
         "input" => Ok(host.add_input(first_word(field.said).0, &field.text)?),
         "taken" => Ok(host.take_name(field.said)?),
@@ -63,15 +64,23 @@ fn prepare(field: &Field<'_>, host: &mut MemoryHost) -> Result<(), RowFault> {
 }
 
 /// Lets the calls of these numbers fail.
-fn fail_at(numbers: &str, host: &mut MemoryHost) -> Result<(), RowFault> {
+fn fail_at(numbers: &str, host: &mut MemoryHost) -> Result<(), BlockFault> {
     for digits in numbers.split_whitespace() {
         host.fail_at(number(digits)?)?;
     }
     Ok(())
 }
 
+/// The number of these digits.
+fn number(digits: &str) -> Result<u64, BlockFault> {
+    match digits.parse::<u64>() {
+        Ok(number) => Ok(number),
+        Err(_) => Err(BlockFault("no number where one has to stand")),
+    }
+}
+
 /// Words as a command line has them.
-pub(crate) fn words_of(alloc: Global, text: &str) -> Result<Vec<String>, OutOfMemory> {
+fn words_of(alloc: Global, text: &str) -> Result<Vec<String>, OutOfMemory> {
     let mut words = Vec::new(alloc);
     for word in text.split_whitespace() {
         words.push(String::from_str(alloc, word)?)?;
@@ -79,10 +88,20 @@ pub(crate) fn words_of(alloc: Global, text: &str) -> Result<Vec<String>, OutOfMe
     Ok(words)
 }
 
-/// What the field of a word says, or else this.
-fn said_or<'a>(fields: &[Field<'a>], word: &str, otherwise: &'a str) -> &'a str {
-    let said = said(fields, word);
-    if said.is_empty() { otherwise } else { said }
+/// What the field of a word says.
+fn said<'a>(fields: &[Field<'a>], word: &str) -> Option<&'a str> {
+    match find(fields, word) {
+        Some(field) => Some(field.said),
+        None => None,
+    }
+}
+
+/// The text of the field of a word; empty where there is none.
+fn text_of<'f>(fields: &'f [Field<'_>], word: &str) -> &'f [u8] {
+    match find(fields, word) {
+        Some(field) => field.text.as_slice(),
+        None => &[],
+    }
 }
 
 /// Tells the status and the ending of a run, unless they begin with what is wanted.
@@ -98,4 +117,14 @@ fn tell_ending(
         Some(others) if others.starts_with(' ') => Ok(()),
         _ => tell("ends", wanted.as_bytes(), got.as_bytes(), told),
     }
+}
+
+/// Tells a difference, where there is one.
+fn tell(word: &str, wanted: &[u8], got: &[u8], told: &mut String) -> Result<(), OutOfMemory> {
+    if wanted == got {
+        return Ok(());
+    }
+    let wanted = str::from_utf8(wanted).unwrap_or("not UTF-8");
+    let got = str::from_utf8(got).unwrap_or("not UTF-8");
+    write!(told, " {word} wanted {wanted:?}, got {got:?};")
 }

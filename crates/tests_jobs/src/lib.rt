@@ -1,0 +1,5 @@
+//! Tests of the sample.
+#![tactic(auto)]
+
+#[cfg(test)]
+mod samples;
