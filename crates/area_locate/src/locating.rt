@@ -63,8 +63,9 @@ fn all_found(
 /// for each point, in order. Its hits are, in order of the candidates, one for each area whose boundary it lies on
 /// and one for each area that it lies in, off the boundary; and no others.
 ///
-/// The outline of each candidate is made once, and one sweep goes over it and the points in its rectangle: the time is n log n
-/// of both together, and that of the points at the heights of each area. Fails only if memory runs out.
+/// The outline of each candidate is made once. An index over the points finds those in its rectangle, and one sweep goes over both.
+/// The time is n log n of all points, n log n of each outline with the points in its rectangle, and log² n of all points for each
+/// candidate; the index takes n log n memory. Fails only if memory runs out.
 pub fn locate(
     alloc: Global,
     store: &Store,
