@@ -44,93 +44,16 @@ fn put_hit(alloc: Global, text: &mut String, hit: &Hit) -> Result<(), Fail> {
 }
 
 /// The hits of each location, each after a colon.
-fn hits_at(alloc: Global, input: &str, points: &[Loc]) -> Result<String, Fail> {
+fn hits_of(alloc: Global, input: &str, points: &str) -> Result<String, Fail> {
     let store = store_of(alloc, input)?;
+    let points = locs(alloc, points)?;
     let choice = Choice::without_lists(false);
-    let found = locate(alloc, &store, &choice, points)?;
+    let found = locate(alloc, &store, &choice, points.as_slice())?;
     let mut text = String::new(alloc);
     for entry in found.as_slice() {
         text.push_str(":")?;
         for hit in entry.hits.as_slice() {
             put_hit(alloc, &mut text, hit)?;
-        }
-    }
-    Ok(text)
-}
-
-/// Those of locations in words.
-fn hits_of(alloc: Global, input: &str, points: &str) -> Result<String, Fail> {
-    let points = locs(alloc, points)?;
-    hits_at(alloc, input, points.as_slice())
-}
-
-/// A rectangle between whole degrees.
-#[derive(Clone, Copy)]
-struct Rectangle {
-    west: i64,
-    south: i64,
-    east: i64,
-    north: i64,
-}
-
-impl Rectangle {
-    /// How it lies to a location: around it, on it, or neither.
-    fn way_at(self, x: i64, y: i64) -> Option<&'static str> {
-        if x < self.west || self.east < x || y < self.south || self.north < y {
-            return None;
-        }
-        let on = x == self.west || x == self.east || y == self.south || y == self.north;
-        Some(if on { "on" } else { "in" })
-    }
-}
-
-/// Rectangles, so many of which lie at all heights that an index is made before the last ones.
-fn rectangles(alloc: Global) -> Result<Vec<Rectangle>, Fail> {
-    let mut rectangles = Vec::new(alloc);
-    let rows = [
-        (0, 0, 1, 19),
-        (3, 2, 20, 11),
-        (5, 5, 9, 7),
-        (28, 0, 29, 1),
-        (2, 12, 29, 19),
-    ];
-    for (west, south, east, north) in rows {
-        let rectangle = Rectangle {
-            west,
-            south,
-            east,
-            north,
-        };
-        let times = if rectangles.is_empty() { 40 } else { 1 };
-        for _ in 0..times {
-            rectangles.push(rectangle)?;
-        }
-    }
-    Ok(rectangles)
-}
-
-/// A way round each.
-fn ways_round(alloc: Global, rectangles: &[Rectangle]) -> Result<String, Fail> {
-    let mut text = String::new(alloc);
-    for (place, r) in rectangles.iter().enumerate() {
-        let id = place.saturating_add(1);
-        let (west, south, east, north) = (r.west, r.south, r.east, r.north);
-        let way = format!(in alloc;
-            "w{id} Ta=b Nn{id}1x{west}y{south},n{id}2x{east}y{south},n{id}3x{east}y{north},n{id}4x{west}y{north},n{id}1x{west}y{south}\n"
-        )?;
-        text.push_str(way.as_str())?;
-    }
-    Ok(text)
-}
-
-/// The hits of a location among them.
-fn hits_among(alloc: Global, rectangles: &[Rectangle], x: i64, y: i64) -> Result<String, Fail> {
-    let mut text = String::new(alloc);
-    text.push_str(":")?;
-    for (place, rectangle) in rectangles.iter().enumerate() {
-        if let Some(way) = rectangle.way_at(x, y) {
-            let id = place.saturating_add(1);
-            text.push_str(format!(in alloc; " {way} w{id}")?.as_str())?;
         }
     }
     Ok(text)
@@ -173,6 +96,13 @@ fn inside_and_on_areas(rt: HostRuntime) -> Result<(), Fail> {
             "n5 x2 y0\nn6 x2 y1\nw1 Ta=b Nn1,n2,n3,n4,n1\nw2 Ta=b Nn2,n5,n6,n3,n2\n",
             "2,1 2,2 1,1 3,1 4,0",
             ": on w1 on w2: on w1 on w2: in w1: in w2: on w2",
+        ),
+        // locations that are asked for twice: in a square, beside it and on it
+        (
+            SQUARE,
+            "w7 Ta=b Nn1,n2,n3,n4,n1\n",
+            "2,1 1,1 3,1 1,1 2,1 3,1",
+            ": on w7: in w7:: in w7: on w7:",
         ),
     ];
     for (nodes, areas, points, hits) in rows {
@@ -246,24 +176,5 @@ fn entries_are_those_of_the_points(rt: HostRuntime) -> Result<(), Fail> {
     for (entry, at) in found.as_slice().iter().zip(points.as_slice()) {
         assert_eq!(rt; entry.at, *at);
     }
-    Ok(())
-}
-
-#[test]
-fn many_points_and_areas(rt: HostRuntime) -> Result<(), Fail> {
-    let alloc = rt.alloc();
-    let rectangles = rectangles(alloc)?;
-    let mut points = Locs::new(alloc);
-    let mut hits = String::new(alloc);
-    // twice each location of a grid
-    for place in 0..1_200i64 {
-        let (x, y) = (place / 2 % 30, place / 60);
-        let loc = Loc::new(x * 10_000_000, y * 10_000_000);
-        points.push(loc.ok_or_else(|| Fail::new("out of range"))?)?;
-        hits.push_str(hits_among(alloc, &rectangles, x, y)?.as_str())?;
-    }
-    let input = ways_round(alloc, &rectangles)?;
-    let got = hits_at(alloc, input.as_str(), points.as_slice())?;
-    assert_eq!(rt; got.as_str(), hits.as_str());
     Ok(())
 }
