@@ -411,6 +411,22 @@ def points_of_squares(n):
 
 
 @kind
+def slits(n):
+    """n rectangles in one row, from random heights to others"""
+    random.seed(n)
+    world = Map()
+    for i in range(n):
+        low, high = sorted(random.sample(range(LONG // 100), 2))
+        world.ring([(10 * i, low), (10 * i + 8, low), (10 * i + 8, high), (10 * i, high)], "building=yes")
+
+
+@kind
+def points_of_slits(n):
+    """n points for them"""
+    points(n, (0, 0), (10 * n, LONG // 100))
+
+
+@kind
 def points_of_comb(n):
     """n points for the comb"""
     points(n, (0, 1), (n, 3 * LONG))

@@ -13,9 +13,6 @@ use Rattle.area_locate.specs.Within.{AddsWithin, IsPlaceWithin}
 use Rattle.area_locate.proofs.WithinPoints.{within_sides}
 
 module _ (envelope : Envelope) (points : List Loc) where
-  pub adds_none : (among : ℕ → Type 0) (found : List ℕ) → ((i : ℕ) → among i → ⊥) → AddsWithin envelope points among found found
-  adds_none among found none = record { kept = λ i h. h; within = λ h. h; whole = λ i a at. absurd (none i a) }
-
   adds_then : (first then both : ℕ → Type 0) (old mid new : List ℕ) → ((i : ℕ) → both i → first i ⊎ then i) → AddsWithin envelope points first old mid → AddsWithin envelope points then mid new → AddsWithin envelope points both old new
   adds_then first then both old mid new parts a b = record {
     kept = λ i h. b.kept i (a.kept i h);

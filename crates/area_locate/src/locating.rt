@@ -59,13 +59,13 @@ fn all_found(
 
 /// Finds for each of the points the areas that hold it and those that have it on them.
 ///
-/// The areas are those of the candidates that the choice takes among the objects of the store. There is one entry for each
-/// point, in order. Its hits are in order of the candidates. There is one for each area whose boundary it lies on, one for
-/// each area that it lies in off the boundary, and no others.
+/// The areas are those of the candidates that the choice takes among the objects of the store. There is one entry
+/// for each point, in order. Its hits are, in order of the candidates, one for each area whose boundary it lies on
+/// and one for each area that it lies in, off the boundary; and no others.
 ///
-/// The outline of each candidate is made once, and one sweep goes over it and the points in its rectangle. The time is
-/// n log n of the segments and those points together, and of the points at the heights of each area. Fails only if
-/// memory runs out.
+/// The outline of each candidate is made once. An index over the points finds those in its rectangle, and one sweep goes over both.
+/// The time is n log n of all points, n log n of each outline with the points in its rectangle, and log² n of all points for each
+/// candidate; the index takes n log n memory. Fails only if memory runs out.
 pub fn locate(
     alloc: Global,
     store: &Store,
