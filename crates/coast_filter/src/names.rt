@@ -43,11 +43,7 @@ fn all_names(alloc: Global, store: &Store, ways: &[i64]) -> Result<Vec<i64>, Out
 }
 
 /// The nodes that references of the ways of these ids name, in order of their ids.
-pub(crate) fn names_of(
-    alloc: Global,
-    store: &Store,
-    ways: &[i64],
-) -> Result<Vec<i64>, OutOfMemory>
+pub(crate) fn names_of(alloc: Global, store: &Store, ways: &[i64]) -> Result<Vec<i64>, OutOfMemory>
     ensures same { IfOk result (λ names.
         HaveSame names.items (flat_map (way_nodes store.now) ways.now)) }
     ensures sorted { IfOk result (λ names. IsSorted int_cmp names.items) }
