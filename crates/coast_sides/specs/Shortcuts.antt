@@ -1,5 +1,5 @@
 -- Shortcuts: where two steps of one ring conflict, the fewer of the locations between them are cut out.
-use Rattle.std.specs.Prelude.{◌≡◌, ◌&&◌, ◌||◌, ◌-◌, ◌++◌, ◌∷◌, ℕ, suc, [], Bool, true, false, not, if◌then◌else◌, List, filter, map, length, drop, take, nat_le, nat_lt, is_some, Option, Some, None, option_map}
+use Rattle.std.specs.Prelude.{◌&&◌, ◌||◌, ◌-◌, ◌++◌, ◌∷◌, ℕ, suc, [], Bool, false, not, if◌then◌else◌, List, filter, map, length, drop, take, nat_le, nat_lt, is_some, Option, Some, None, option_map}
 use Rattle.std.specs.List.{enumerate_from, filter_map, list_any}
 use Rattle.osm_lattice.specs.declared.loc.Loc.{Loc}
 use Rattle.osm_lattice.specs.declared.seg.Seg.{Seg}
