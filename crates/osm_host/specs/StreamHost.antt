@@ -1,5 +1,5 @@
 -- What a host over an opener and standard streams is, and what its parts hold.
-use Rattle.std.specs.Prelude.{ℕ, List, [], ◌∷◌, None, Option, codes, if◌then◌else◌}
+use Rattle.std.specs.Prelude.{ℕ, List, [], ◌∷◌, None, Option, false, codes, if◌then◌else◌}
 use Rattle.std.specs.Str.{bytes_eq}
 use Rattle.osm_host.specs.Outside.{Opened, Outside, appended}
 use Rattle.osm_host.specs.Streams.{left_in, held_by}
@@ -19,6 +19,22 @@ stream_outside host = record {
   read_failed = host.read_failed;
   at_end = host.at_end;
   bytes_read = host.bytes_read;
+}
+
+-- nothing is open, and nothing has failed
+abbrev pub fresh_outside : Outside
+fresh_outside = record {
+  named = λ _. None;
+  left = None;
+  out = None;
+  report = None;
+  opens = None;
+  open_faults = 0;
+  read_faults = 0;
+  write_faults = 0;
+  read_failed = false;
+  at_end = false;
+  bytes_read = 0;
 }
 
 -- ---- what its parts hold, if it is known

@@ -1,5 +1,8 @@
 //! The host over the real files and standard streams. Their contents are unknown to contracts.
 
+ghost use Rattle.std.specs.Prelude.{◌≡◌};
+ghost use Rattle.osm_host.specs.StreamHost.{fresh_outside, stream_outside};
+
 use crate::opener::SystemFiles;
 use crate::stream_host::StreamHost;
 use std::fs::File;
@@ -9,7 +12,9 @@ use std::rt::{Stderr, Stdin, Stdout};
 pub type StdHost = StreamHost<SystemFiles, File, File, Stdin, Stdout, Stderr>;
 
 /// The host over the files and streams of this runtime, before anything is open or has failed.
-pub fn std_host(rt: HostRuntime) -> StdHost {
+pub fn std_host(rt: HostRuntime) -> StdHost
+    ensures { stream_outside result ≡ fresh_outside }
+{
     let (input, output, report) = (rt.stdin(), rt.stdout(), rt.stderr());
     StreamHost::over(SystemFiles::new(rt), input, output, report)
 }

@@ -45,23 +45,11 @@ pub struct StreamHost<D, R, W, I, O, E> {
 }
 
 impl<D, R, W, I, O, E> StreamHost<D, R, W, I, O, E> {
-    ghost use Rattle.osm_host.specs.StreamHost.{stream_outside};
+    ghost use Rattle.osm_host.specs.StreamHost.{fresh_outside, stream_outside};
 
     /// The host over these parts, before anything is open or has failed.
     pub fn over(opener: D, input: I, output: O, report: E) -> StreamHost<D, R, W, I, O, E>
-        ensures { stream_outside result ≡ record {
-          named = λ _. None;
-          left = None;
-          out = None;
-          report = None;
-          opens = None;
-          open_faults = 0;
-          read_faults = 0;
-          write_faults = 0;
-          read_failed = false;
-          at_end = false;
-          bytes_read = 0;
-        } }
+        ensures { stream_outside result ≡ fresh_outside }
     {
         StreamHost {
             opener,

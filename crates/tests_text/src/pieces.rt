@@ -44,9 +44,9 @@ fn sliver() -> [Edge; 3] {
     ]
 }
 
-/// The edges (-1/2, 0), (0, -4), (1/2, 0), (0, 4).
+/// The edges from (-1/2, 0) by (0, -4) to (1/2, 0).
 #[tactic(auto, using(osm_lattice::proofs::LatticeKit::half_lowest), unfolding(osm_geom::specs::Carrier::is_on))]
-fn halves_of_x() -> [Edge; 4] {
+fn lower_halves() -> [Edge; 2] {
     let west = Point::OnHorizontal {
         x: Part {
             floor: -1,
@@ -63,7 +63,7 @@ fn halves_of_x() -> [Edge; 4] {
         },
         d: 0,
     };
-    let (bottom, top) = (Loc { x: 0, y: -4 }, Loc { x: 0, y: 4 });
+    let bottom = Loc { x: 0, y: -4 };
     [
         Edge {
             from: west,
@@ -81,6 +81,30 @@ fn halves_of_x() -> [Edge; 4] {
                 b: Loc { x: 1, y: 4 },
             }),
         },
+    ]
+}
+
+/// The edges from (1/2, 0) by (0, 4) to (-1/2, 0).
+#[tactic(auto, using(osm_lattice::proofs::LatticeKit::half_lowest), unfolding(osm_geom::specs::Carrier::is_on))]
+fn upper_halves() -> [Edge; 2] {
+    let west = Point::OnHorizontal {
+        x: Part {
+            floor: -1,
+            above: 1,
+            den: 2,
+        },
+        d: 0,
+    };
+    let east = Point::OnHorizontal {
+        x: Part {
+            floor: 0,
+            above: 1,
+            den: 2,
+        },
+        d: 0,
+    };
+    let top = Loc { x: 0, y: 4 };
+    [
         Edge {
             from: east,
             to: Point::Lattice(top),
@@ -98,6 +122,13 @@ fn halves_of_x() -> [Edge; 4] {
             }),
         },
     ]
+}
+
+/// The edges (-1/2, 0), (0, -4), (1/2, 0), (0, 4).
+fn halves_of_x() -> [Edge; 4] {
+    let [first, second] = lower_halves();
+    let [third, last] = upper_halves();
+    [first, second, third, last]
 }
 
 /// The edges (8, -1/2), (8, 0), (0, 4), (0, -4).
