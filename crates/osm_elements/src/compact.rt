@@ -3,14 +3,15 @@
 ghost use Rattle.std.specs.Prelude.{◌≡◌, ◌++◌, length, take, OnOk, OnErr};
 ghost use Rattle.osm_elements.specs.Compact.{number_bytes, number_in, after_number, folded, unfolded, difference, moved};
 
+use crate::block::Block;
 use std::alloc::AllocError as OutOfMemory;
 
 /// Adds a number: its digits in base 128, the lowest first, each but the last with 128 added.
 ///
 /// After an `Err` some of them may have been added.
-pub(crate) fn push_number(bytes: &mut Vec<u8>, number: u64) -> Result<(), OutOfMemory>
-    ensures ok { OnOk result (bytes.new.items ≡ bytes.old.items ++ number_bytes number) }
-    ensures err { OnErr result (take (length bytes.old.items) bytes.new.items ≡ bytes.old.items) }
+pub(crate) fn push_number(bytes: &mut Block, number: u64) -> Result<(), OutOfMemory>
+    ensures ok { OnOk result (bytes.new ≡ bytes.old ++ number_bytes number) }
+    ensures err { OnErr result (take (length bytes.old) bytes.new ≡ bytes.old) }
 {
     let mut left = number;
     while left >= 128 {

@@ -6,6 +6,7 @@ ghost use Rattle.osm_elements.specs.Places.{longitude, latitude};
 ghost use Rattle.osm_elements.specs.Compact.{difference};
 ghost use Rattle.osm_elements.specs.Held.{refs_behind, last_behind, compared_id, place_from, x_from, y_from, place_bytes, ref_bytes, first_place, after_place, first_ref, after_ref};
 
+use crate::block::Block;
 use crate::compact::{difference, first_number, moved, push_number};
 use crate::object::Ref;
 use osm_lattice::Loc;
@@ -21,7 +22,7 @@ const ROOM: usize = 8;
 /// first. The first itself takes up to about fifteen.
 #[derive(Debug, Drop)]
 pub struct Refs {
-    bytes: Vec<u8>,
+    bytes: Block,
 }
 
 impl Model for Refs {
@@ -31,9 +32,9 @@ impl Model for Refs {
 
     ghost Value = { List Ref };
 
-    ghost view = { λ r. refs_behind None r.bytes.items };
+    ghost view = { λ r. refs_behind None r.bytes };
 
-    ghost invariant = { λ r. AreRefBytes r.bytes.items };
+    ghost invariant = { λ r. AreRefBytes r.bytes };
 }
 
 /// An iterator over references.
@@ -104,9 +105,9 @@ fn differences(from: Option<Loc>, at: Loc) -> (u64, u64)
 }
 
 /// Adds a location, or that there is none. After an `Err` a part of it may have been added.
-fn push_place(bytes: &mut Vec<u8>, from: Option<Loc>, at: Option<Loc>) -> Result<(), OutOfMemory>
-    ensures ok { OnOk result (bytes.new.items ≡ bytes.old.items ++ place_bytes from at) }
-    ensures err { OnErr result (take (length bytes.old.items) bytes.new.items ≡ bytes.old.items) }
+fn push_place(bytes: &mut Block, from: Option<Loc>, at: Option<Loc>) -> Result<(), OutOfMemory>
+    ensures ok { OnOk result (bytes.new ≡ bytes.old ++ place_bytes from at) }
+    ensures err { OnErr result (take (length bytes.old) bytes.new ≡ bytes.old) }
 {
     let Some(at) = at else {
         return push_number(bytes, 0);
@@ -118,9 +119,9 @@ fn push_place(bytes: &mut Vec<u8>, from: Option<Loc>, at: Option<Loc>) -> Result
 }
 
 /// Adds a reference. After an `Err` a part of it may have been added.
-fn push_ref(bytes: &mut Vec<u8>, first: Option<Ref>, reference: Ref) -> Result<(), OutOfMemory>
-    ensures ok { OnOk result (bytes.new.items ≡ bytes.old.items ++ ref_bytes first reference) }
-    ensures err { OnErr result (take (length bytes.old.items) bytes.new.items ≡ bytes.old.items) }
+fn push_ref(bytes: &mut Block, first: Option<Ref>, reference: Ref) -> Result<(), OutOfMemory>
+    ensures ok { OnOk result (bytes.new ≡ bytes.old ++ ref_bytes first reference) }
+    ensures err { OnErr result (take (length bytes.old) bytes.new ≡ bytes.old) }
 {
     push_number(bytes, difference(compared_id(first), reference.node))?;
     push_place(bytes, place_from(first), reference.at)?;
@@ -188,7 +189,7 @@ impl Refs {
         ensures { result ≡ [] }
     {
         Refs {
-            bytes: Vec::new(alloc),
+            bytes: Block::new(alloc),
         }
     }
 
@@ -197,7 +198,7 @@ impl Refs {
         ensures { IfOk result (λ refs. refs ≡ []) }
     {
         Ok(Refs {
-            bytes: Vec::with_capacity(alloc, room.saturating_mul(ROOM))?,
+            bytes: Block::with_capacity(alloc, room.saturating_mul(ROOM))?,
         })
     }
 
@@ -276,7 +277,7 @@ impl Refs {
     pub fn copy(&self, alloc: Global) -> Result<Refs, OutOfMemory>
         ensures { IfOk result (λ refs. refs ≡ self.now) }
     {
-        let bytes = Vec::from_slice(alloc, self.bytes.as_slice())?;
+        let bytes = self.bytes.copy(alloc)?;
         Ok(Refs { bytes })
     }
 

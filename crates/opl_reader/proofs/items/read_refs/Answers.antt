@@ -10,7 +10,7 @@ use Rattle.osm_elements.proofs.ElementsKit.{first_more}
 use Rattle.opl_reader.proofs.items.read_refs.Goals as goal
 
 pub loop-left-init : goal.loop-left-init
-loop-left-init c = rw c.in_ok-refs.ensures (begins-all ref_at c.args.place c.args.text.now c.all_items-left.result c.all_items-left.ensures.value c.all_items-left.ensures.utf8, refl)
+loop-left-init c = rw c.new-refs.ensures (begins-all ref_at c.args.place c.args.text.now c.all_items-left.result c.all_items-left.ensures.value c.all_items-left.ensures.utf8, refl)
 
 pub returns-in_default-reference : goal.returns-in_default-reference
 unfolding refs_at
