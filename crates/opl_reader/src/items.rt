@@ -167,8 +167,8 @@ pub fn read_tags(alloc: Global, text: &str, place: u64) -> Result<Tags, LineErro
         at += item.len() as u64 + 1;
         left = more;
     }
-    // A block that is made smaller may keep its size, so a copy is stored. Few bytes are in place, and take no block.
-    Ok(tags.copy(alloc)?)
+    // A block that is made smaller may keep its size, so a copy of it is stored.
+    Ok(tags.without_spare_room(alloc)?)
 }
 
 /// The own location after its x: a longitude or nothing, y, a latitude or nothing.
@@ -268,7 +268,7 @@ pub fn read_refs(alloc: Global, text: &str, place: u64) -> Result<Refs, LineErro
         left = more;
     }
     // As for tags, a copy is stored.
-    Ok(refs.copy(alloc)?)
+    Ok(refs.without_spare_room(alloc)?)
 }
 
 /// The kind of object that a letter names.
@@ -324,7 +324,8 @@ pub fn read_members(alloc: Global, text: &str, place: u64) -> Result<Members, Li
     requires { place + length text.now < 2 ^ 63 }
     ensures { Gives result (members_at place text.now) }
 {
-    let mut members = Members::with_capacity(alloc, item_room(text), text.len())?;
+    // Roles are usual ones, and few as bytes, so they get no room of their own.
+    let mut members = Members::with_capacity(alloc, item_room(text), 0)?;
     let mut at = place;
     let mut left = all_items(text);
     while let Some(rest) = left {

@@ -160,6 +160,11 @@ impl Block {
         Block::from_slice(alloc, self.as_slice())
     }
 
+    /// Whether the bytes are in place. No clause says it.
+    pub(crate) fn is_in_place(&self) -> bool {
+        matches!(self.bytes, Bytes::Short(_))
+    }
+
     /// The bytes.
     pub(crate) fn as_slice(&self) -> &[u8]
         ensures { result.now ≡ self.now }

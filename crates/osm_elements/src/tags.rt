@@ -19,8 +19,8 @@ pub struct TagRef<'a> {
 
 /// The tags of an object, in the order of its line.
 ///
-/// They take one block of memory, or none if there are no tags. A key or value that is usual in OpenStreetMap takes a byte,
-/// and any other takes its text and a byte or five.
+/// They take one block of memory, or none if they take up to 30 bytes. A key or value that is usual in OpenStreetMap takes a
+/// byte, and any other takes its text and a byte or five.
 #[derive(Debug, Drop)]
 pub struct Tags {
     texts: Block,
@@ -154,6 +154,16 @@ impl Tags {
             texts: self.texts.copy(alloc)?,
             count: self.count,
         })
+    }
+
+    /// The same tags without spare room. It copies them only if they take a block.
+    pub fn without_spare_room(self, alloc: Global) -> Result<Tags, OutOfMemory>
+        ensures { IfOk result (λ tags. tags ≡ self) }
+    {
+        if self.texts.is_in_place() {
+            return Ok(self);
+        }
+        self.copy(alloc)
     }
 
     /// An iterator over the tags. It takes no memory.

@@ -35,4 +35,4 @@ loop-left-preserved c =
 pub returns : goal.returns
 unfolding refs_at
 returns c =
-    is_read ref_at c.loop-left.refs c.loop-left.at c.args.place c.args.text.now (rw c.in_default.is at c.loop-left.invariant.0) ∙ ap (λ (refs : List Ref). Ok refs) (sym c.in_ok-copy.ensures)
+    is_read ref_at c.loop-left.refs c.loop-left.at c.args.place c.args.text.now (rw c.in_default.is at c.loop-left.invariant.0) ∙ ap (λ (refs : List Ref). Ok refs) (sym c.in_ok-without_spare_room.ensures)
