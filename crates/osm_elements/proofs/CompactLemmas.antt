@@ -5,7 +5,7 @@ use Rattle.std.proofs.Math.Facts.{sfits_to_z, Fits-of_lt}
 use Rattle.std.proofs.lemmas.Bool.{cases_lt, lt-ltb, le-ltb}
 use Rattle.std.proofs.lemmas.List.{take-append-le}
 use Rattle.std.proofs.lemmas.Int.{to_z-of_z}
-use Rattle.osm_elements.specs.Compact.{digits_within, number_bytes, number_in, after_number, marked_bytes, marked_number, is_marked, folded, unfolded, difference, moved}
+use Rattle.osm_elements.specs.Compact.{digits_within, number_bytes, number_in, after_number, marked_bytes, marked_number, has_mark, folded, unfolded, difference, moved}
 
 -- ---- the digits of a number
 
@@ -69,7 +69,7 @@ behind_told n more small = (told_within n n more (omega arith) small).behind
 
 pub record MarkTold (bytes more : List ℕ) (mark n : ℕ) : Type 0 where
   pub number : marked_number bytes ≡ n
-  pub marked : is_marked bytes ≡ (mark == 1)
+  pub marked : has_mark bytes ≡ (mark == 1)
   pub behind : after_number bytes ≡ more
 
 pub mark_told : (mark n : ℕ) (more : List ℕ) → mark < 2 → n < 2 ^ 64 → MarkTold (marked_bytes mark n ++ more) more mark n

@@ -7,7 +7,7 @@ use Rattle.osm_lattice.specs.declared.loc.Loc.{Loc}
 use Rattle.osm_elements.specs.declared.object.Ref.{Ref}
 use Rattle.osm_elements.specs.Places.{location_from}
 use Rattle.osm_elements.specs.Places.{longitude, latitude}
-use Rattle.osm_elements.specs.Compact.{number_bytes, number_in, after_number, marked_bytes, marked_number, is_marked, difference, moved}
+use Rattle.osm_elements.specs.Compact.{number_bytes, number_in, after_number, marked_bytes, marked_number, has_mark, difference, moved}
 use Rattle.osm_elements.specs.Held.{compared_id, place_from, x_from, y_from, mark_of, place_bytes, ref_bytes, refs_bytes, first_place, after_place, first_ref, after_ref, refs_within, refs_behind, last_behind, AreRefBytes}
 use Rattle.osm_elements.proofs.CompactLemmas.{number_told, behind_told, mark_told, some_marked, difference_small, moved_back, moved_fits, after_first, after_shorter}
 use Rattle.osm_elements.proofs.PlaceLaws.{own_place}
@@ -85,14 +85,14 @@ ref_told first r more fits_first fits =
     let e : bytes ≡ marked_bytes mark by ++ (place ++ more) = append_assoc (marked_bytes mark by) place more in
     let t = mark_told mark by (place ++ more) (mark_small r.at) (difference_small (compared_id first) r.node) in
     let number : marked_number bytes ≡ by = ap marked_number e ∙ t.number in
-    let marked : is_marked bytes ≡ (mark == 1) = ap is_marked e ∙ t.marked in
+    let marked : has_mark bytes ≡ (mark == 1) = ap has_mark e ∙ t.marked in
     let after : after_number bytes ≡ place ++ more = ap after_number e ∙ t.behind in
     let node : moved (compared_id first) (marked_number bytes) ≡ r.node = ap (moved (compared_id first)) number ∙ moved_back (compared_id first) r.node fits_first fits in
     let told = place_told (place_from first) r.at more in
-    let at : first_place (is_marked bytes) (place_from first) (after_number bytes) ≡ r.at =
-        ap (λ (b : Bool). first_place b (place_from first) (after_number bytes)) marked ∙ ap (first_place (mark == 1) (place_from first)) after ∙ told.place in
+    let at : first_place (has_mark bytes) (place_from first) (after_number bytes) ≡ r.at =
+    ap (λ (b : Bool). first_place b (place_from first) (after_number bytes)) marked ∙ ap (first_place (mark == 1) (place_from first)) after ∙ told.place in
     record {
-      ref = ap (λ (n : ℤ). record { node = n; at = first_place (is_marked bytes) (place_from first) (after_number bytes) }) node ∙ ap (λ (o : Option Loc). record { node = r.node; at = o }) at;
+      ref = ap (λ (n : ℤ). record { node = n; at = first_place (has_mark bytes) (place_from first) (after_number bytes) }) node ∙ ap (λ (o : Option Loc). record { node = r.node; at = o }) at;
       behind = ap (λ (b : Bool). after_place b (after_number bytes)) marked ∙ ap (after_place (mark == 1)) after ∙ told.behind;
     }
 
@@ -126,7 +126,7 @@ after_place_shorter false bytes = omega arith
 pub after_ref_shorter : (byte : ℕ) (bytes : List ℕ) → length (after_ref (byte ∷ bytes)) ≤ length bytes
 after_ref_shorter byte bytes =
     let a = after_first byte bytes in
-    let b = after_place_shorter (is_marked (byte ∷ bytes)) (after_number (byte ∷ bytes)) in
+    let b = after_place_shorter (has_mark (byte ∷ bytes)) (after_number (byte ∷ bytes)) in
     omega arith
 
 -- ---- as many as there are

@@ -4,6 +4,6 @@ use Rattle.osm_elements.specs.declared.block.Bytes.{Bytes}
 use Rattle.osm_elements.specs.declared.block.Bytes.TheVariants.{Short, Long}
 
 -- the bytes, wherever they are
-abbrev pub bytes_of : Bytes → List ℕ
-bytes_of (Short bytes) = bytes
-bytes_of (Long bytes) = bytes.items
+abbrev pub bytes_held : Bytes → List ℕ
+bytes_held (Short bytes) = bytes
+bytes_held (Long bytes) = bytes.items

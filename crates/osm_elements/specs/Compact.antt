@@ -31,9 +31,9 @@ marked_number [] = 0
 marked_number (byte ∷ bytes) = if nat_lt byte 128 then byte / 2 else (number_in bytes * 64 % 2 ^ 64 + (byte - 128) / 2) % 2 ^ 64
 
 -- whether its mark is 1
-abbrev pub is_marked : List ℕ → Bool
-is_marked [] = false
-is_marked (byte ∷ bytes) = byte % 2 == 1
+abbrev pub has_mark : List ℕ → Bool
+has_mark [] = false
+has_mark (byte ∷ bytes) = byte % 2 == 1
 
 -- The bits of a signed number, folded so that small numbers of either sign are small: 0, -1, 1, -2, 2 and so on.
 unfoldable pub folded : ℕ → ℕ

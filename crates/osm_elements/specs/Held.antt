@@ -5,7 +5,7 @@ use Rattle.osm_lattice.specs.declared.loc.Loc.{Loc}
 use Rattle.osm_elements.specs.declared.object.Ref.{Ref}
 use Rattle.osm_elements.specs.Places.{location_from}
 use Rattle.osm_elements.specs.Places.{longitude, latitude}
-use Rattle.osm_elements.specs.Compact.{number_bytes, number_in, after_number, marked_bytes, marked_number, is_marked, difference, moved}
+use Rattle.osm_elements.specs.Compact.{number_bytes, number_in, after_number, marked_bytes, marked_number, has_mark, difference, moved}
 
 -- the id that ids are compared with: that of the first reference, and 0 before there is one
 abbrev pub compared_id : Option Ref → ℤ
@@ -59,11 +59,11 @@ after_place marked bytes = if marked then after_number (after_number bytes) else
 
 -- the reference in front
 abbrev pub first_ref : Option Ref → List ℕ → Ref
-first_ref first bytes = record { node = moved (compared_id first) (marked_number bytes); at = first_place (is_marked bytes) (place_from first) (after_number bytes) }
+first_ref first bytes = record { node = moved (compared_id first) (marked_number bytes); at = first_place (has_mark bytes) (place_from first) (after_number bytes) }
 
 -- the bytes after it
 abbrev pub after_ref : List ℕ → List ℕ
-after_ref bytes = after_place (is_marked bytes) (after_number bytes)
+after_ref bytes = after_place (has_mark bytes) (after_number bytes)
 
 -- at most this many of the references
 abbrev pub refs_within : ℕ → Option Ref → List ℕ → List Ref

@@ -42,11 +42,11 @@ pub(crate) struct Block {
 
 impl Model for Block {
     ghost use Rattle.std.specs.Prelude.{ℕ, List};
-    ghost use Rattle.osm_elements.specs.Blocks.{bytes_of};
+    ghost use Rattle.osm_elements.specs.Blocks.{bytes_held};
 
     ghost Value = { List ℕ };
 
-    ghost view = { λ b. bytes_of b.bytes };
+    ghost view = { λ b. bytes_held b.bytes };
 }
 
 impl ShortBytes {

@@ -1,7 +1,7 @@
 //! Numbers in few bytes if they are small, and signed numbers by how they differ from others.
 
 ghost use Rattle.std.specs.Prelude.{◌≡◌, ◌<◌, ◌++◌, length, take, OnOk, OnErr};
-ghost use Rattle.osm_elements.specs.Compact.{number_bytes, number_in, after_number, marked_bytes, marked_number, is_marked, folded, unfolded, difference, moved};
+ghost use Rattle.osm_elements.specs.Compact.{number_bytes, number_in, after_number, marked_bytes, marked_number, has_mark, folded, unfolded, difference, moved};
 
 use crate::block::Block;
 use std::alloc::AllocError as OutOfMemory;
@@ -75,14 +75,12 @@ pub(crate) fn push_marked(bytes: &mut Block, mark: u8, number: u64) -> Result<()
 /// The number with a mark in front, whether its mark is 1, and the bytes after it.
 pub(crate) fn first_marked(bytes: &[u8]) -> (u64, bool, &[u8])
     ensures number { result.0 ≡ marked_number bytes.now }
-    ensures mark { result.1 ≡ is_marked bytes.now }
+    ensures mark { result.1 ≡ has_mark bytes.now }
     ensures behind { result.2.now ≡ after_number bytes.now }
 {
     match bytes {
         [] => (0, false, bytes),
-        [only, behind @ ..] if *only < 128 => {
-            (u64::from(*only / 2), *only % 2 == 1, behind)
-        }
+        [only, behind @ ..] if *only < 128 => { (u64::from(*only / 2), *only % 2 == 1, behind) }
         [first, more @ ..] => {
             let (high, behind) = first_number(more);
             let low = u64::from((*first - 128) / 2);
