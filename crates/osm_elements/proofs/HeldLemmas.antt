@@ -1,8 +1,7 @@
 -- References in one block of bytes.
-use Rattle.std.proofs.Common.{◌≡◌, ◌∙◌, refl, sym, ap, ℕ, zero, suc, ◌+◌, ◌-◌, ◌<◌, ◌≤◌, ◌^◌, List, [], ◌∷◌, ◌++◌, length, append-nil, append_assoc, length-append, Bool, true, false, inl, inr, Option, Some, None, ℤ, arith, rules, w64, FitsSigned}
-use Rattle.std.specs.Prelude.{slice_get, ◌==◌, unsigned_abs, if◌then◌else◌}
+use Rattle.std.proofs.Common.{◌≡◌, ◌∙◌, refl, sym, ap, ℕ, zero, suc, ◌-◌, ◌<◌, ◌≤◌, ◌^◌, List, [], ◌∷◌, ◌++◌, length, append-nil, append_assoc, length-append, Bool, true, false, Option, Some, None, ℤ, arith, rules, w64, FitsSigned}
+use Rattle.std.specs.Prelude.{slice_get, ◌==◌, unsigned_abs}
 use Rattle.std.specs.Option.{unwrap_or}
-use Rattle.std.proofs.lemmas.Bool.{cases_lt, false_from_ne_true, eqb-true}
 use Rattle.osm_lattice.specs.declared.loc.Loc.{Loc}
 use Rattle.osm_elements.specs.declared.object.Ref.{Ref}
 use Rattle.osm_elements.specs.Places.{location_from}
