@@ -58,14 +58,6 @@ fn item_room(text: &str) -> usize {
     commas.min(MOST_ROOM - 1) + 1
 }
 
-/// How many bytes tags get room for.
-///
-/// If the text has no escape and each key and value is short, the two bytes for their lengths replace an equals sign and a
-/// comma.
-fn tag_room(text: &str) -> usize {
-    if text.is_empty() { 0 } else { text.len() + 1 }
-}
-
 /// Whether one of the first few tags has this key.
 fn is_key_among_few(tags: &Tags, key: &str) -> bool
     ensures { result ≡ list_any (λ t. bytes_eq t.key key.now) (take 16 tags.now) }
@@ -165,7 +157,7 @@ pub fn read_tags(alloc: Global, text: &str, place: u64) -> Result<Tags, LineErro
     requires { place + length text.now < 2 ^ 63 }
     ensures { Gives result (tags_at place text.now) }
 {
-    let mut tags = Tags::with_capacity(alloc, tag_room(text))?;
+    let mut tags = Tags::new(alloc);
     let mut later_keys = BTreeSet::new(alloc);
     let mut at = place;
     let mut left = all_items(text);
@@ -175,8 +167,8 @@ pub fn read_tags(alloc: Global, text: &str, place: u64) -> Result<Tags, LineErro
         at += item.len() as u64 + 1;
         left = more;
     }
-    // A block that is made smaller may keep its size, so a copy is stored.
-    Ok(tags.copy(alloc)?)
+    // A block that is made smaller may keep its size, so a copy of it is stored.
+    Ok(tags.without_spare_room(alloc)?)
 }
 
 /// The own location after its x: a longitude or nothing, y, a latitude or nothing.
@@ -261,7 +253,7 @@ pub fn read_refs(alloc: Global, text: &str, place: u64) -> Result<Refs, LineErro
     requires { place + length text.now < 2 ^ 63 }
     ensures { Gives result (refs_at place text.now) }
 {
-    let mut refs = Refs::with_capacity(alloc, item_room(text))?;
+    let mut refs = Refs::new(alloc);
     let mut first = None;
     let mut at = place;
     let mut left = all_items(text);
@@ -276,7 +268,7 @@ pub fn read_refs(alloc: Global, text: &str, place: u64) -> Result<Refs, LineErro
         left = more;
     }
     // As for tags, a copy is stored.
-    Ok(refs.copy(alloc)?)
+    Ok(refs.without_spare_room(alloc)?)
 }
 
 /// The kind of object that a letter names.
@@ -332,7 +324,8 @@ pub fn read_members(alloc: Global, text: &str, place: u64) -> Result<Members, Li
     requires { place + length text.now < 2 ^ 63 }
     ensures { Gives result (members_at place text.now) }
 {
-    let mut members = Members::with_capacity(alloc, item_room(text), text.len())?;
+    // Roles are usual ones, and few as bytes, so they get no room of their own.
+    let mut members = Members::with_capacity(alloc, item_room(text), 0)?;
     let mut at = place;
     let mut left = all_items(text);
     while let Some(rest) = left {

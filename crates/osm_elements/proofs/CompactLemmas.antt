@@ -1,11 +1,11 @@
 -- Numbers in few bytes, and differences.
-use Rattle.std.proofs.Common.{◌≡◌, ◌≢◌, ◌∙◌, refl, sym, ap, ℕ, zero, suc, ◌+◌, ◌-◌, ◌*◌, ◌/◌, ◌%◌, ◌^◌, ◌<◌, ◌≤◌, false, ltb, List, [], ◌∷◌, ◌++◌, length, take, append_assoc, length-take, inl, inr, ℤ, pos, negsuc, arith, rules, w64, FitsSigned, to_z, of_z}
-use Rattle.std.specs.Prelude.{unsigned_abs}
+use Rattle.std.proofs.Common.{◌≡◌, ◌∙◌, refl, sym, ap, ℕ, zero, suc, ◌+◌, ◌-◌, ◌*◌, ◌/◌, ◌%◌, ◌^◌, ◌<◌, ◌≤◌, true, false, ltb, List, [], ◌∷◌, ◌++◌, length, take, append_assoc, length-take, inl, inr, ℤ, pos, negsuc, arith, rules, w64, FitsSigned, to_z, of_z}
+use Rattle.std.specs.Prelude.{◌==◌}
 use Rattle.std.proofs.Math.Facts.{sfits_to_z, Fits-of_lt}
 use Rattle.std.proofs.lemmas.Bool.{cases_lt, lt-ltb, le-ltb}
 use Rattle.std.proofs.lemmas.List.{take-append-le}
 use Rattle.std.proofs.lemmas.Int.{to_z-of_z}
-use Rattle.osm_elements.specs.Compact.{digits_within, number_bytes, number_in, after_number, folded, unfolded, difference, moved}
+use Rattle.osm_elements.specs.Compact.{digits_within, number_bytes, number_in, after_number, marked_bytes, marked_number, has_mark, folded, unfolded, difference, moved}
 
 -- ---- the digits of a number
 
@@ -64,6 +64,35 @@ number_told n more small = (told_within n n more (omega arith) small).number
 pub behind_told : (n : ℕ) (more : List ℕ) → n < 2 ^ 64 → after_number (number_bytes n ++ more) ≡ more
 unfolding number_bytes
 behind_told n more small = (told_within n n more (omega arith) small).behind
+
+-- ---- a number with a mark
+
+pub record MarkTold (bytes more : List ℕ) (mark n : ℕ) : Type 0 where
+  pub number : marked_number bytes ≡ n
+  pub marked : has_mark bytes ≡ (mark == 1)
+  pub behind : after_number bytes ≡ more
+
+pub mark_told : (mark n : ℕ) (more : List ℕ) → mark < 2 → n < 2 ^ 64 → MarkTold (marked_bytes mark n ++ more) more mark n
+mark_told mark n more two small =
+    elim (cases_lt n 64) [
+      | inl lt ↦
+          let byte : ltb (2 * n + mark) 128 ≡ true = lt-ltb (2 * n + mark) 128 (omega arith) in
+          let half : (2 * n + mark) / 2 ≡ n = omega arith in
+          let last : (2 * n + mark) % 2 ≡ mark = omega arith in
+          rw (lt-ltb n 64 lt) (record { number = rw byte half; marked = rw last refl; behind = rw byte refl })
+      | inr many ↦
+          let high = number_told (n / 64) more (omega arith) in
+          let byte : ltb (128 + (2 * (n % 64) + mark)) 128 ≡ false = le-ltb (128 + (2 * (n % 64) + mark)) 128 (omega arith) in
+          let last : (128 + (2 * (n % 64) + mark)) % 2 ≡ mark = omega arith in
+          rw (le-ltb n 64 many) (record { number = rw (byte, high) (omega arith); marked = rw last refl; behind = rw byte (behind_told (n / 64) more (omega arith)) })
+    ]
+
+-- some bytes
+pub some_marked : (mark n : ℕ) → 0 < length (marked_bytes mark n)
+some_marked mark n = elim (cases_lt n 64) [
+  | inl lt ↦ rw (lt-ltb n 64 lt) (omega arith)
+  | inr le ↦ rw (le-ltb n 64 le) (omega arith)
+]
 
 pub number_small : (bytes : List ℕ) → number_in bytes < 2 ^ 64
 number_small [] = omega arith
@@ -133,21 +162,6 @@ moved_back from to a b =
 pub moved_fits : (from : ℤ) (by : ℕ) → FitsSigned w64 (moved from by)
 unfolding moved
 moved_fits from by = sfits_to_z (Fits-of_lt (omega arith))
-
-folded_less : (bits : ℕ) → bits < 2 ^ 64 → bits ≢ 2 ^ 63 → 1 + folded bits < 2 ^ 64
-unfolding folded
-folded_less bits small other = elim (cases_lt bits (2 ^ 63)) [
-  | inl lt ↦ rw (lt-ltb bits (2 ^ 63) lt) (omega arith)
-  | inr le ↦ rw (le-ltb bits (2 ^ 63) le) (omega arith)
-]
-
--- Of two numbers that are far below 2^62 one more than the difference is still below 2^64.
-pub near_small : (from to : ℤ) → unsigned_abs from ≤ 1_800_000_000 → unsigned_abs to ≤ 1_800_000_000 → 1 + difference from to < 2 ^ 64
-unfolding difference
-near_small (pos m) (pos n) a b = folded_less _ (omega arith) (omega arith)
-near_small (pos m) (negsuc n) a b = folded_less _ (omega arith) (omega arith)
-near_small (negsuc m) (pos n) a b = folded_less _ (omega arith) (omega arith)
-near_small (negsuc m) (negsuc n) a b = folded_less _ (omega arith) (omega arith)
 
 -- ---- a digit more
 

@@ -1,15 +1,14 @@
 -- References in one block of bytes.
-use Rattle.std.proofs.Common.{◌≡◌, ◌∙◌, refl, sym, ap, ℕ, zero, suc, ◌+◌, ◌-◌, ◌<◌, ◌≤◌, ◌^◌, List, [], ◌∷◌, ◌++◌, length, append-nil, append_assoc, length-append, Bool, true, false, inl, inr, Option, Some, None, ℤ, arith, rules, w64, FitsSigned}
-use Rattle.std.specs.Prelude.{slice_get, ◌==◌, unsigned_abs, if◌then◌else◌}
+use Rattle.std.proofs.Common.{◌≡◌, ◌∙◌, refl, sym, ap, ℕ, zero, suc, ◌-◌, ◌<◌, ◌≤◌, ◌^◌, List, [], ◌∷◌, ◌++◌, length, append-nil, append_assoc, length-append, Bool, true, false, Option, Some, None, ℤ, arith, rules, w64, FitsSigned}
+use Rattle.std.specs.Prelude.{slice_get, ◌==◌, unsigned_abs}
 use Rattle.std.specs.Option.{unwrap_or}
-use Rattle.std.proofs.lemmas.Bool.{cases_lt, false_from_ne_true, eqb-true}
 use Rattle.osm_lattice.specs.declared.loc.Loc.{Loc}
 use Rattle.osm_elements.specs.declared.object.Ref.{Ref}
 use Rattle.osm_elements.specs.Places.{location_from}
 use Rattle.osm_elements.specs.Places.{longitude, latitude}
-use Rattle.osm_elements.specs.Compact.{number_bytes, number_in, after_number, difference, moved}
-use Rattle.osm_elements.specs.Held.{compared_id, place_from, x_from, y_from, place_bytes, ref_bytes, refs_bytes, first_place, after_place, first_ref, after_ref, refs_within, refs_behind, last_behind, AreRefBytes}
-use Rattle.osm_elements.proofs.CompactLemmas.{last_digit, more_digits, near_small, number_told, behind_told, difference_small, moved_back, moved_fits, after_first, after_shorter}
+use Rattle.osm_elements.specs.Compact.{number_bytes, number_in, after_number, marked_bytes, marked_number, has_mark, difference, moved}
+use Rattle.osm_elements.specs.Held.{compared_id, place_from, x_from, y_from, mark_of, place_bytes, ref_bytes, refs_bytes, first_place, after_place, first_ref, after_ref, refs_within, refs_behind, last_behind, AreRefBytes}
+use Rattle.osm_elements.proofs.CompactLemmas.{number_told, behind_told, mark_told, some_marked, difference_small, moved_back, moved_fits, after_first, after_shorter}
 use Rattle.osm_elements.proofs.PlaceLaws.{own_place}
 
 -- ---- what coordinates are compared with
@@ -25,15 +24,11 @@ near_y (Some at) = at.y_in
 fits_near : (z : ℤ) → unsigned_abs z ≤ 1_800_000_000 → FitsSigned w64 z
 fits_near z near = search (rules, near)
 
--- a location's x by one more than it differs
-pub along_small : (from : Option Loc) (at : Loc) → 1 + difference (x_from from) at.x < 2 ^ 64
-along_small from at = near_small (x_from from) at.x (near_x from) at.x_in
-
 -- ---- a location in front
 
 record PlaceTold (from at : Option Loc) (more : List ℕ) : Type 0 where
-  place : first_place from (place_bytes from at ++ more) ≡ at
-  behind : after_place (place_bytes from at ++ more) ≡ more
+  place : first_place (mark_of at == 1) from (place_bytes from at ++ more) ≡ at
+  behind : after_place (mark_of at == 1) (place_bytes from at ++ more) ≡ more
 
 -- two numbers in front
 record TwoTold (a b : ℕ) (more : List ℕ) : Type 0 where
@@ -63,16 +58,16 @@ place_at_told from at =
 
 place_told : (from at : Option Loc) (more : List ℕ) → PlaceTold from at more
 unfolding first_place after_place
-place_told from None more =
-    let none = number_told 0 more (omega arith) in
-    record { place = rw none refl; behind = rw none (behind_told 0 more (omega arith)) }
+place_told from None more = record { place = refl; behind = refl }
 place_told from (Some at) more =
     let along = difference (x_from from) at.x in
     let up = difference (y_from from) at.y in
-    let t = two_told (1 + along) up more (along_small from at) (difference_small (y_from from) at.y) in
-    let some : (1 + along == 0) ≡ false = false_from_ne_true _ (λ h. let none = eqb-true (1 + along) 0 h in absurd (omega arith)) in
-    let less : 1 + along - 1 ≡ along = omega arith in
-    record { place = rw (t.first, t.second, some, less) (place_at_told from at); behind = rw (t.first, some) t.behind }
+    let t = two_told along up more (difference_small (x_from from) at.x) (difference_small (y_from from) at.y) in
+    record { place = rw (t.first, t.second) (place_at_told from at); behind = t.behind }
+
+mark_small : (at : Option Loc) → mark_of at < 2
+mark_small None = omega arith
+mark_small (Some at) = omega arith
 
 -- ---- a reference in front
 
@@ -83,46 +78,54 @@ record RefTold (first : Option Ref) (r : Ref) (more : List ℕ) : Type 0 where
 ref_told : (first : Option Ref) (r : Ref) (more : List ℕ) → FitsSigned w64 (compared_id first) → FitsSigned w64 r.node → RefTold first r more
 ref_told first r more fits_first fits =
     let by = difference (compared_id first) r.node in
+    let mark = mark_of r.at in
     let place = place_bytes (place_from first) r.at in
-    let e : ref_bytes first r ++ more ≡ number_bytes by ++ (place ++ more) = append_assoc (number_bytes by) place more in
-    let small = difference_small (compared_id first) r.node in
-    let number : number_in (ref_bytes first r ++ more) ≡ by = ap number_in e ∙ number_told by (place ++ more) small in
-    let after : after_number (ref_bytes first r ++ more) ≡ place ++ more = ap after_number e ∙ behind_told by (place ++ more) small in
-    let node : moved (compared_id first) (number_in (ref_bytes first r ++ more)) ≡ r.node = ap (moved (compared_id first)) number ∙ moved_back (compared_id first) r.node fits_first fits in
+    let bytes = ref_bytes first r ++ more in
+    let e : bytes ≡ marked_bytes mark by ++ (place ++ more) = append_assoc (marked_bytes mark by) place more in
+    let t = mark_told mark by (place ++ more) (mark_small r.at) (difference_small (compared_id first) r.node) in
+    let number : marked_number bytes ≡ by = ap marked_number e ∙ t.number in
+    let marked : has_mark bytes ≡ (mark == 1) = ap has_mark e ∙ t.marked in
+    let after : after_number bytes ≡ place ++ more = ap after_number e ∙ t.behind in
+    let node : moved (compared_id first) (marked_number bytes) ≡ r.node = ap (moved (compared_id first)) number ∙ moved_back (compared_id first) r.node fits_first fits in
     let told = place_told (place_from first) r.at more in
-    let at : first_place (place_from first) (after_number (ref_bytes first r ++ more)) ≡ r.at = ap (first_place (place_from first)) after ∙ told.place in
-    record { ref = ap (λ (n : ℤ). record { node = n; at = first_place (place_from first) (after_number (ref_bytes first r ++ more)) }) node ∙ ap (λ (o : Option Loc). record { node = r.node; at = o }) at; behind = ap after_place after ∙ told.behind }
+    let at : first_place (has_mark bytes) (place_from first) (after_number bytes) ≡ r.at =
+    ap (λ (b : Bool). first_place b (place_from first) (after_number bytes)) marked ∙ ap (first_place (mark == 1) (place_from first)) after ∙ told.place in
+    record {
+      ref = ap (λ (n : ℤ). record { node = n; at = first_place (has_mark bytes) (place_from first) (after_number bytes) }) node ∙ ap (λ (o : Option Loc). record { node = r.node; at = o }) at;
+      behind = ap (λ (b : Bool). after_place b (after_number bytes)) marked ∙ ap (after_place (mark == 1)) after ∙ told.behind;
+    }
+
+-- the bytes of a reference that was pushed in two parts
+pub ref_pushed : (before middle after : List ℕ) (first : Option Ref) (r : Ref) (mark by : ℕ) (from : Option Loc) → mark ≡ mark_of r.at → by ≡ difference (compared_id first) r.node → from ≡ place_from first
+    → middle ≡ before ++ marked_bytes mark by → after ≡ middle ++ place_bytes from r.at → after ≡ before ++ ref_bytes first r
+ref_pushed before middle after first r mark by from m b f one two =
+    let id = marked_bytes (mark_of r.at) (difference (compared_id first) r.node) in
+    let marked : marked_bytes mark by ≡ id = ap (λ (k : ℕ). marked_bytes k by) m ∙ ap (marked_bytes (mark_of r.at)) b in
+    two
+    ∙ ap (λ (bytes : List ℕ). bytes ++ place_bytes from r.at) (one ∙ ap (λ (bytes : List ℕ). before ++ bytes) marked)
+    ∙ ap (λ (o : Option Loc). (before ++ id) ++ place_bytes o r.at) f
+    ∙ append_assoc before id (place_bytes (place_from first) r.at)
 
 -- ---- how many bytes
 
-some_bytes : (n : ℕ) → 0 < length (number_bytes n)
-some_bytes n = elim (cases_lt n 128) [
-  | inl lt ↦ rw (last_digit n lt) (omega arith)
-  | inr le ↦ rw (more_digits n le) (omega arith)
-]
-
 some_ref_bytes : (first : Option Ref) (r : Ref) → 0 < length (ref_bytes first r)
 some_ref_bytes first r =
-    let some = some_bytes (difference (compared_id first) r.node) in
-    let n = length-append (number_bytes (difference (compared_id first) r.node)) (place_bytes (place_from first) r.at) in
+    let some = some_marked (mark_of r.at) (difference (compared_id first) r.node) in
+    let n = length-append (marked_bytes (mark_of r.at) (difference (compared_id first) r.node)) (place_bytes (place_from first) r.at) in
     omega arith
 
-after_place_shorter : (bytes : List ℕ) → length (after_place bytes) ≤ length bytes
+after_place_shorter : (marked : Bool) (bytes : List ℕ) → length (after_place marked bytes) ≤ length bytes
 unfolding after_place
-after_place_shorter bytes =
+after_place_shorter true bytes =
     let once = after_shorter bytes in
     let twice = after_shorter (after_number bytes) in
-    by_mark (number_in bytes == 0) bytes once (omega arith)
-  where
-    by_mark : (none : Bool) (bytes : List ℕ) → length (after_number bytes) ≤ length bytes → length (after_number (after_number bytes)) ≤ length bytes
-        → length (if none then after_number bytes else after_number (after_number bytes)) ≤ length bytes
-    by_mark true bytes once twice = once
-    by_mark false bytes once twice = twice
+    omega arith
+after_place_shorter false bytes = omega arith
 
 pub after_ref_shorter : (byte : ℕ) (bytes : List ℕ) → length (after_ref (byte ∷ bytes)) ≤ length bytes
 after_ref_shorter byte bytes =
     let a = after_first byte bytes in
-    let b = after_place_shorter (after_number (byte ∷ bytes)) in
+    let b = after_place_shorter (has_mark (byte ∷ bytes)) (after_number (byte ∷ bytes)) in
     omega arith
 
 -- ---- as many as there are
@@ -176,7 +179,7 @@ all_fit zero first bytes = tt
 all_fit (suc more) first [] = tt
 all_fit (suc more) first (byte ∷ bytes) =
     let r = first_ref first (byte ∷ bytes) in
-    (moved_fits (compared_id first) (number_in (byte ∷ bytes)), all_fit more (Some (unwrap_or first r)) (after_ref (byte ∷ bytes)))
+    (moved_fits (compared_id first) (marked_number (byte ∷ bytes)), all_fit more (Some (unwrap_or first r)) (after_ref (byte ∷ bytes)))
 
 first_fits : (first : Option Ref) (r : Ref) → FitsSigned w64 (compared_id first) → FitsSigned w64 r.node → FitsSigned w64 (compared_id (Some (unwrap_or first r)))
 first_fits None r fits_first fits = fits

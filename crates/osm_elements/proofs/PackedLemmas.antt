@@ -88,8 +88,9 @@ code_tells code text le lt is = record {
 
 -- ---- as `push_text` knows them
 
-pub usual_added : (before text after : List ℕ) (code : ℕ) → 192 ≤ code → code < 255 → usual_text code ≡ text → after ≡ before ++ code ∷ [] → IsTextAdded before text after
-usual_added before text after code le lt is added = record { bytes = code ∷ []; is = added; tell = code_tells code text le lt is }
+pub usual_added : {X E : Type 0} (before text after : List ℕ) (code : ℕ) (r : Result X E) → 192 ≤ code → code < 255 → usual_text code ≡ text → OnOk r (after ≡ before ++ code ∷ []) → OnOk r (IsTextAdded before text after)
+usual_added before text after code (Ok x) le lt is added = record { bytes = code ∷ []; is = added; tell = code_tells code text le lt is }
+usual_added before text after code (Err e) le lt is added = tt
 
 pub whole_added : {X E : Type 0} (before text after : List ℕ) (r : Result X E) → OnOk r (after ≡ before ++ whole_text text) → OnOk r (IsTextAdded before text after)
 whole_added before text after (Ok x) added = record { bytes = whole_text text; is = added; tell = whole_tells text }

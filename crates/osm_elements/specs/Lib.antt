@@ -1,4 +1,5 @@
 pub mod Seen
+pub mod Blocks
 pub mod Packed
 pub mod Compact
 pub mod Held

@@ -1,16 +1,17 @@
 //! Numbers in few bytes if they are small, and signed numbers by how they differ from others.
 
-ghost use Rattle.std.specs.Prelude.{◌≡◌, ◌++◌, length, take, OnOk, OnErr};
-ghost use Rattle.osm_elements.specs.Compact.{number_bytes, number_in, after_number, folded, unfolded, difference, moved};
+ghost use Rattle.std.specs.Prelude.{◌≡◌, ◌<◌, ◌++◌, length, take, OnOk, OnErr};
+ghost use Rattle.osm_elements.specs.Compact.{number_bytes, number_in, after_number, marked_bytes, marked_number, has_mark, folded, unfolded, difference, moved};
 
+use crate::block::Block;
 use std::alloc::AllocError as OutOfMemory;
 
 /// Adds a number: its digits in base 128, the lowest first, each but the last with 128 added.
 ///
 /// After an `Err` some of them may have been added.
-pub(crate) fn push_number(bytes: &mut Vec<u8>, number: u64) -> Result<(), OutOfMemory>
-    ensures ok { OnOk result (bytes.new.items ≡ bytes.old.items ++ number_bytes number) }
-    ensures err { OnErr result (take (length bytes.old.items) bytes.new.items ≡ bytes.old.items) }
+pub(crate) fn push_number(bytes: &mut Block, number: u64) -> Result<(), OutOfMemory>
+    ensures ok { OnOk result (bytes.new ≡ bytes.old ++ number_bytes number) }
+    ensures err { OnErr result (take (length bytes.old) bytes.new ≡ bytes.old) }
 {
     let mut left = number;
     while left >= 128 {
@@ -51,6 +52,41 @@ pub(crate) fn first_number(bytes: &[u8]) -> (u64, &[u8])
             behind,
         ),
         _ => long_number(bytes),
+    }
+}
+
+/// Adds a number and a mark, which is 0 or 1. A number below 64 takes one byte.
+///
+/// After an `Err` a part of it may have been added.
+pub(crate) fn push_marked(bytes: &mut Block, mark: u8, number: u64) -> Result<(), OutOfMemory>
+    requires { mark < 2 }
+    ensures ok { OnOk result (bytes.new ≡ bytes.old ++ marked_bytes mark number) }
+    ensures err { OnErr result (take (length bytes.old) bytes.new ≡ bytes.old) }
+{
+    if number < 64 {
+        bytes.push(2 * number as u8 + mark)?;
+        return Ok(());
+    }
+    bytes.push(128 + (2 * (number % 64) as u8 + mark))?;
+    push_number(bytes, number / 64)?;
+    Ok(())
+}
+
+/// The number with a mark in front, whether its mark is 1, and the bytes after it.
+pub(crate) fn first_marked(bytes: &[u8]) -> (u64, bool, &[u8])
+    ensures number { result.0 ≡ marked_number bytes.now }
+    ensures mark { result.1 ≡ has_mark bytes.now }
+    ensures behind { result.2.now ≡ after_number bytes.now }
+{
+    match bytes {
+        [] => (0, false, bytes),
+        [only, behind @ ..] if *only < 128 => { (u64::from(*only / 2), *only % 2 == 1, behind) }
+        [first, more @ ..] => {
+            let (high, behind) = first_number(more);
+            let low = u64::from((*first - 128) / 2);
+            let number = high.wrapping_mul(64).wrapping_add(low);
+            (number, *first % 2 == 1, behind)
+        }
     }
 }
 

@@ -1,6 +1,7 @@
 //! OpenStreetMap's objects as values: nodes, ways and relations, with their tags, references and members in few bytes.
 #![tactic(auto)]
 
+mod block;
 mod compact;
 mod coordinate;
 mod members;

@@ -3,6 +3,7 @@
 ghost use Rattle.std.specs.Prelude.{◌≡◌, ◌++◌, ◌∷◌, ◌==◌, [], length, IfOk, OnOk, OnErr, MatchOption, IfNone};
 ghost use Rattle.osm_elements.specs.Seen.{member_of, member_seen};
 
+use crate::block::Block;
 use crate::object::{ObjectKind, ObjectRef};
 use crate::packed::{push_text, split_text};
 use std::alloc::{AllocError as OutOfMemory, Global};
@@ -22,7 +23,7 @@ pub struct MemberRef<'a> {
 #[derive(Debug, Drop)]
 pub struct Members {
     targets: Vec<ObjectRef>,
-    roles: Vec<u8>,
+    roles: Block,
 }
 
 impl Model for Members {
@@ -33,9 +34,9 @@ impl Model for Members {
 
     ghost use Rattle.osm_elements.specs.Packed.{members_in, HaveRoles};
 
-    ghost view = { λ m. members_in m.targets.items m.roles.items };
+    ghost view = { λ m. members_in m.targets.items m.roles };
 
-    ghost invariant = { λ m. HaveRoles m.targets.items m.roles.items };
+    ghost invariant = { λ m. HaveRoles m.targets.items m.roles };
 }
 
 /// An iterator over members.
@@ -65,7 +66,7 @@ impl Members {
     {
         Members {
             targets: Vec::new(alloc),
-            roles: Vec::new(alloc),
+            roles: Block::new(alloc),
         }
     }
 
@@ -81,7 +82,7 @@ impl Members {
     {
         Ok(Members {
             targets: Vec::with_capacity(alloc, members)?,
-            roles: Vec::with_capacity(alloc, bytes)?,
+            roles: Block::with_capacity(alloc, bytes)?,
         })
     }
 
@@ -91,7 +92,7 @@ impl Members {
     {
         Ok(Members {
             targets: Vec::from_slice(alloc, &self.targets)?,
-            roles: Vec::from_slice(alloc, &self.roles)?,
+            roles: self.roles.copy(alloc)?,
         })
     }
 

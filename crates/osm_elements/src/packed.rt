@@ -5,6 +5,7 @@
 ghost use Rattle.std.specs.Prelude.{◌≡◌, ◌≤◌, ◌<◌, ◌^◌, ◌++◌, length, drop, take, OnOk, OnErr};
 ghost use Rattle.osm_elements.specs.Packed.{length_bytes, head_len, text_len, first_text, after_text, BeginsWithText, IsTextAdded};
 
+use crate::block::Block;
 use crate::usual::{FIRST_CODE, usual_code, usual_text};
 use std::alloc::AllocError as OutOfMemory;
 use std::str;
@@ -40,11 +41,11 @@ fn length_bytes(len: u32) -> ([u8; 5], usize)
 }
 
 /// Adds a text after its length. After an `Err` nothing is added.
-fn push_whole(texts: &mut Vec<u8>, len: u32, text: &str) -> Result<(), OutOfMemory>
+fn push_whole(texts: &mut Block, len: u32, text: &str) -> Result<(), OutOfMemory>
     requires { len ≡ length text.now }
-    ensures ok { OnOk result (texts.new.items
-        ≡ texts.old.items ++ (length_bytes (length text.now) ++ text.now)) }
-    ensures err { OnErr result (texts.new.items ≡ texts.old.items) }
+    ensures ok { OnOk result (texts.new
+        ≡ texts.old ++ (length_bytes (length text.now) ++ text.now)) }
+    ensures err { OnErr result (texts.new ≡ texts.old) }
 {
     let before = texts.len();
     let (bytes, count) = length_bytes(len);
@@ -57,17 +58,16 @@ fn push_whole(texts: &mut Vec<u8>, len: u32, text: &str) -> Result<(), OutOfMemo
 }
 
 /// Adds a text. After an `Err` nothing is added.
-pub(crate) fn push_text(texts: &mut Vec<u8>, text: &str) -> Result<(), OutOfMemory>
-    ensures ok { OnOk result (IsTextAdded texts.old.items text.now texts.new.items) }
+pub(crate) fn push_text(texts: &mut Block, text: &str) -> Result<(), OutOfMemory>
+    ensures ok { OnOk result (IsTextAdded texts.old text.now texts.new) }
     ensures short { OnOk result (length text.now < 2 ^ 32) }
-    ensures err { OnErr result (texts.new.items ≡ texts.old.items) }
+    ensures err { OnErr result (texts.new ≡ texts.old) }
 {
     let Ok(len) = u32::try_from(text.len()) else {
         return Err(OutOfMemory);
     };
     if let Some(code) = usual_code(text) {
-        texts.push(code)?;
-        return Ok(());
+        return texts.push(code);
     }
     push_whole(texts, len, text)
 }

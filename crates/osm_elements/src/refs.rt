@@ -1,12 +1,13 @@
-//! The references of a way, held in one block of bytes: each by how it differs from the first of them.
+//! The references of a way, in few bytes: each by how it differs from the first of them.
 
-ghost use Rattle.std.specs.Prelude.{◌≡◌, ◌++◌, ◌∷◌, ◌==◌, ◌+◌, ◌-◌, [], Some, length, take, slice_get, IfOk, OnOk, OnErr};
+ghost use Rattle.std.specs.Prelude.{◌≡◌, ◌++◌, ◌∷◌, ◌==◌, ◌+◌, ◌-◌, ◌<◌, [], Some, length, take, slice_get, IfOk, OnOk, OnErr};
 ghost use Rattle.osm_elements.specs.Places.{location_from};
 ghost use Rattle.osm_elements.specs.Places.{longitude, latitude};
 ghost use Rattle.osm_elements.specs.Compact.{difference};
-ghost use Rattle.osm_elements.specs.Held.{refs_behind, last_behind, compared_id, place_from, x_from, y_from, place_bytes, ref_bytes, first_place, after_place, first_ref, after_ref};
+ghost use Rattle.osm_elements.specs.Held.{refs_behind, last_behind, compared_id, place_from, x_from, y_from, mark_of, place_bytes, ref_bytes, first_place, after_place, first_ref, after_ref};
 
-use crate::compact::{difference, first_number, moved, push_number};
+use crate::block::Block;
+use crate::compact::{difference, first_marked, first_number, moved, push_marked, push_number};
 use crate::object::Ref;
 use osm_lattice::Loc;
 use std::alloc::{AllocError as OutOfMemory, Global};
@@ -17,11 +18,11 @@ const ROOM: usize = 8;
 
 /// The references of a way, in order.
 ///
-/// Each takes about two bytes if its id is near that of the first, and about five if it carries a location near that of the
+/// Each takes one byte or two if its id is near that of the first, and about five if it carries a location near that of the
 /// first. The first itself takes up to about fifteen.
 #[derive(Debug, Drop)]
 pub struct Refs {
-    bytes: Vec<u8>,
+    bytes: Block,
 }
 
 impl Model for Refs {
@@ -31,9 +32,9 @@ impl Model for Refs {
 
     ghost Value = { List Ref };
 
-    ghost view = { λ r. refs_behind None r.bytes.items };
+    ghost view = { λ r. refs_behind None r.bytes };
 
-    ghost invariant = { λ r. AreRefBytes r.bytes.items };
+    ghost invariant = { λ r. AreRefBytes r.bytes };
 }
 
 /// An iterator over references.
@@ -92,24 +93,35 @@ fn place_at(x: i64, y: i64) -> Option<Loc>
     Loc::new(x, y)
 }
 
-/// By how much x differs, plus one, and by how much y differs.
+/// By how much x differs, and by how much y differs.
 fn differences(from: Option<Loc>, at: Loc) -> (u64, u64)
-    ensures along { result.0 ≡ 1 + difference (x_from from) at.x }
+    ensures along { result.0 ≡ difference (x_from from) at.x }
     ensures up { result.1 ≡ difference (y_from from) at.y }
 {
     let (x, y) = coordinates_from(from);
     let along = difference(x, i64::from(at.x));
     let up = difference(y, i64::from(at.y));
-    (1 + along, up)
+    (along, up)
 }
 
-/// Adds a location, or that there is none. After an `Err` a part of it may have been added.
-fn push_place(bytes: &mut Vec<u8>, from: Option<Loc>, at: Option<Loc>) -> Result<(), OutOfMemory>
-    ensures ok { OnOk result (bytes.new.items ≡ bytes.old.items ++ place_bytes from at) }
-    ensures err { OnErr result (take (length bytes.old.items) bytes.new.items ≡ bytes.old.items) }
+/// The mark that tells whether there is a location.
+fn mark_of(at: Option<Loc>) -> u8
+    ensures mark { result ≡ mark_of at }
+    ensures small { result < 2 }
+{
+    match at {
+        None => 0,
+        Some(_) => 1,
+    }
+}
+
+/// Adds a location, if there is one. After an `Err` a part of it may have been added.
+fn push_place(bytes: &mut Block, from: Option<Loc>, at: Option<Loc>) -> Result<(), OutOfMemory>
+    ensures ok { OnOk result (bytes.new ≡ bytes.old ++ place_bytes from at) }
+    ensures err { OnErr result (take (length bytes.old) bytes.new ≡ bytes.old) }
 {
     let Some(at) = at else {
-        return push_number(bytes, 0);
+        return Ok(());
     };
     let (along, up) = differences(from, at);
     push_number(bytes, along)?;
@@ -118,28 +130,29 @@ fn push_place(bytes: &mut Vec<u8>, from: Option<Loc>, at: Option<Loc>) -> Result
 }
 
 /// Adds a reference. After an `Err` a part of it may have been added.
-fn push_ref(bytes: &mut Vec<u8>, first: Option<Ref>, reference: Ref) -> Result<(), OutOfMemory>
-    ensures ok { OnOk result (bytes.new.items ≡ bytes.old.items ++ ref_bytes first reference) }
-    ensures err { OnErr result (take (length bytes.old.items) bytes.new.items ≡ bytes.old.items) }
+fn push_ref(bytes: &mut Block, first: Option<Ref>, reference: Ref) -> Result<(), OutOfMemory>
+    ensures ok { OnOk result (bytes.new ≡ bytes.old ++ ref_bytes first reference) }
+    ensures err { OnErr result (take (length bytes.old) bytes.new ≡ bytes.old) }
 {
-    push_number(bytes, difference(compared_id(first), reference.node))?;
+    let by = difference(compared_id(first), reference.node);
+    push_marked(bytes, mark_of(reference.at), by)?;
     push_place(bytes, place_from(first), reference.at)?;
     Ok(())
 }
 
-/// The location in front, and the bytes after it.
+/// The location in front, if the mark says that there is one, and the bytes after it.
 #[tactic(auto, unfolding(crate::specs::Held::first_place, crate::specs::Held::after_place))]
-fn first_place(from: Option<Loc>, bytes: &[u8]) -> (Option<Loc>, &[u8])
-    ensures place { result.0 ≡ first_place from bytes.now }
-    ensures behind { result.1.now ≡ after_place bytes.now }
+fn first_place(marked: bool, from: Option<Loc>, bytes: &[u8]) -> (Option<Loc>, &[u8])
+    ensures place { result.0 ≡ first_place marked from bytes.now }
+    ensures behind { result.1.now ≡ after_place marked bytes.now }
 {
-    let (along, behind) = first_number(bytes);
-    if along == 0 {
-        return (None, behind);
+    if !marked {
+        return (None, bytes);
     }
     let (x, y) = coordinates_from(from);
+    let (along, behind) = first_number(bytes);
     let (up, behind) = first_number(behind);
-    (place_at(moved(x, along - 1), moved(y, up)), behind)
+    (place_at(moved(x, along), moved(y, up)), behind)
 }
 
 /// The reference in front, and the bytes after it.
@@ -147,8 +160,8 @@ fn first_ref(first: Option<Ref>, bytes: &[u8]) -> (Ref, &[u8])
     ensures reference { result.0 ≡ first_ref first bytes.now }
     ensures behind { result.1.now ≡ after_ref bytes.now }
 {
-    let (by, behind) = first_number(bytes);
-    let (at, behind) = first_place(place_from(first), behind);
+    let (by, marked, behind) = first_marked(bytes);
+    let (at, behind) = first_place(marked, place_from(first), behind);
     let node = moved(compared_id(first), by);
     (Ref { node, at }, behind)
 }
@@ -158,11 +171,11 @@ fn first_ref(first: Option<Ref>, bytes: &[u8]) -> (Ref, &[u8])
 fn after_ref(bytes: &[u8]) -> &[u8]
     ensures { result.now ≡ after_ref bytes.now }
 {
-    let (_, behind) = first_number(bytes);
-    let (along, behind) = first_number(behind);
-    if along == 0 {
+    let (_, marked, behind) = first_marked(bytes);
+    if !marked {
         return behind;
     }
+    let (_, behind) = first_number(behind);
     first_number(behind).1
 }
 
@@ -188,7 +201,7 @@ impl Refs {
         ensures { result ≡ [] }
     {
         Refs {
-            bytes: Vec::new(alloc),
+            bytes: Block::new(alloc),
         }
     }
 
@@ -197,7 +210,7 @@ impl Refs {
         ensures { IfOk result (λ refs. refs ≡ []) }
     {
         Ok(Refs {
-            bytes: Vec::with_capacity(alloc, room.saturating_mul(ROOM))?,
+            bytes: Block::with_capacity(alloc, room.saturating_mul(ROOM))?,
         })
     }
 
@@ -276,8 +289,18 @@ impl Refs {
     pub fn copy(&self, alloc: Global) -> Result<Refs, OutOfMemory>
         ensures { IfOk result (λ refs. refs ≡ self.now) }
     {
-        let bytes = Vec::from_slice(alloc, self.bytes.as_slice())?;
+        let bytes = self.bytes.copy(alloc)?;
         Ok(Refs { bytes })
+    }
+
+    /// The same references without spare room. It copies them only if they take a block.
+    pub fn without_spare_room(self, alloc: Global) -> Result<Refs, OutOfMemory>
+        ensures { IfOk result (λ refs. refs ≡ self) }
+    {
+        if self.bytes.is_in_place() {
+            return Ok(self);
+        }
+        self.copy(alloc)
     }
 
     /// An iterator over the references. It takes no memory.

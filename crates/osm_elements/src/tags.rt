@@ -5,6 +5,7 @@ ghost use Rattle.std.specs.Str.{bytes_eq};
 ghost use Rattle.osm_elements.specs.Packed.{BothAdded};
 ghost use Rattle.osm_elements.specs.Seen.{tag_seen};
 
+use crate::block::Block;
 use crate::packed::{push_text, split_text};
 use std::alloc::{AllocError as OutOfMemory, Global};
 use std::marker::Model;
@@ -18,11 +19,11 @@ pub struct TagRef<'a> {
 
 /// The tags of an object, in the order of its line.
 ///
-/// They take one block of memory, or none if there are no tags. A key or value that is usual in OpenStreetMap takes a byte,
-/// and any other takes its text and a byte or five.
+/// They take one block of memory, or none if they take up to 30 bytes. A key or value that is usual in OpenStreetMap takes a
+/// byte, and any other takes its text and a byte or five.
 #[derive(Debug, Drop)]
 pub struct Tags {
-    texts: Vec<u8>,
+    texts: Block,
     count: usize,
 }
 
@@ -34,9 +35,9 @@ impl Model for Tags {
 
     ghost use Rattle.osm_elements.specs.Packed.{tags_in, AreKeysAndValues};
 
-    ghost view = { λ t. tags_in t.count t.texts.items };
+    ghost view = { λ t. tags_in t.count t.texts };
 
-    ghost invariant = { λ t. AreKeysAndValues t.count t.texts.items };
+    ghost invariant = { λ t. AreKeysAndValues t.count t.texts };
 }
 
 /// An iterator over tags.
@@ -60,10 +61,10 @@ impl<'a> Model for TagIter<'a> {
 }
 
 /// Adds a key and a value. After an `Err` nothing is added.
-fn push_both(texts: &mut Vec<u8>, key: &str, value: &str) -> Result<(), OutOfMemory>
-    ensures ok { OnOk result (BothAdded texts.old.items key.now value.now texts.new.items) }
+fn push_both(texts: &mut Block, key: &str, value: &str) -> Result<(), OutOfMemory>
+    ensures ok { OnOk result (BothAdded texts.old key.now value.now texts.new) }
     ensures short { OnOk result ((length key.now < 2 ^ 32) × (length value.now < 2 ^ 32)) }
-    ensures err { OnErr result (texts.new.items ≡ texts.old.items) }
+    ensures err { OnErr result (texts.new ≡ texts.old) }
 {
     let before = texts.len();
     push_text(texts, key)?;
@@ -80,7 +81,7 @@ impl Tags {
         ensures { result ≡ [] }
     {
         Tags {
-            texts: Vec::new(alloc),
+            texts: Block::new(alloc),
             count: 0,
         }
     }
@@ -90,7 +91,7 @@ impl Tags {
         ensures { IfOk result (λ tags. tags ≡ []) }
     {
         Ok(Tags {
-            texts: Vec::with_capacity(alloc, bytes)?,
+            texts: Block::with_capacity(alloc, bytes)?,
             count: 0,
         })
     }
@@ -150,9 +151,19 @@ impl Tags {
         ensures { IfOk result (λ tags. tags ≡ self.now) }
     {
         Ok(Tags {
-            texts: Vec::from_slice(alloc, &self.texts)?,
+            texts: self.texts.copy(alloc)?,
             count: self.count,
         })
+    }
+
+    /// The same tags without spare room. It copies them only if they take a block.
+    pub fn without_spare_room(self, alloc: Global) -> Result<Tags, OutOfMemory>
+        ensures { IfOk result (λ tags. tags ≡ self) }
+    {
+        if self.texts.is_in_place() {
+            return Ok(self);
+        }
+        self.copy(alloc)
     }
 
     /// An iterator over the tags. It takes no memory.

@@ -10,7 +10,7 @@ use Rattle.osm_elements.proofs.ElementsKit.{first_more}
 use Rattle.opl_reader.proofs.items.read_refs.Goals as goal
 
 pub loop-left-init : goal.loop-left-init
-loop-left-init c = rw c.in_ok-refs.ensures (begins-all ref_at c.args.place c.args.text.now c.all_items-left.result c.all_items-left.ensures.value c.all_items-left.ensures.utf8, refl)
+loop-left-init c = rw c.new-refs.ensures (begins-all ref_at c.args.place c.args.text.now c.all_items-left.result c.all_items-left.ensures.value c.all_items-left.ensures.utf8, refl)
 
 pub returns-in_default-reference : goal.returns-in_default-reference
 unfolding refs_at
@@ -35,4 +35,4 @@ loop-left-preserved c =
 pub returns : goal.returns
 unfolding refs_at
 returns c =
-    is_read ref_at c.loop-left.refs c.loop-left.at c.args.place c.args.text.now (rw c.in_default.is at c.loop-left.invariant.0) ∙ ap (λ (refs : List Ref). Ok refs) (sym c.in_ok-copy.ensures)
+    is_read ref_at c.loop-left.refs c.loop-left.at c.args.place c.args.text.now (rw c.in_default.is at c.loop-left.invariant.0) ∙ ap (λ (refs : List Ref). Ok refs) (sym c.in_ok-without_spare_room.ensures)

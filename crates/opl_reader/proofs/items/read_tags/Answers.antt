@@ -9,9 +9,9 @@ use Rattle.opl_reader.proofs.items.read_tags.Goals as goal
 pub loop-left-init : goal.loop-left-init
 loop-left-init c = (
   [],
-  c.in_ok-tags.ensures,
+  c.new-tags.ensures,
   begins-all tag_at c.args.place c.args.text.now c.all_items-left.result c.all_items-left.ensures.value c.all_items-left.ensures.utf8,
-  rw c.in_ok-tags.ensures (no-keys c.new-later_keys.result c.new-later_keys.ensures.empty),
+  rw c.new-tags.ensures (no-keys c.new-later_keys.result c.new-later_keys.ensures.empty),
 )
 
 pub loop-left-preserved : goal.loop-left-preserved

@@ -7,5 +7,5 @@ pub returns : goal.returns
 returns c =
     let first = c.in_ok-first.first in
     c.last_behind.ensures
-    ∙ ap (λ (bytes : List ℕ). last_behind (Some first) (refs_behind (Some first) bytes)) (c.after_ref.ensures ∙ ap (λ (bytes : List ℕ). after_ref bytes) c.as_slice.ensures.value)
-    ∙ last_of_all c.self.inside.bytes.items c.args.self.now first c.self.view_is (sym c.in_ok-first.ensures)
+    ∙ ap (λ (bytes : List ℕ). last_behind (Some first) (refs_behind (Some first) bytes)) (c.after_ref.ensures ∙ ap (λ (bytes : List ℕ). after_ref bytes) c.as_slice.ensures)
+    ∙ last_of_all c.self.inside.bytes c.args.self.now first c.self.view_is (sym c.in_ok-first.ensures)

@@ -1,4 +1,4 @@
-use Rattle.std.proofs.Common.{◌≡◌, ◌+◌, ◌<◌, ◌≤◌, None, List, length, subst, arith, rules}
+use Rattle.std.proofs.Common.{◌≡◌, ◌+◌, ◌<◌, ◌≤◌, ◌^◌, None, ℕ, List, length, ap, subst, arith, rules}
 use Rattle.std.proofs.Math.Facts.{Fits-of_lt}
 use Rattle.osm_elements.specs.declared.object.Ref.{Ref}
 use Rattle.osm_elements.specs.Held.{refs_behind}
@@ -7,10 +7,10 @@ use Rattle.osm_elements.proofs.refs.Refs.len.Goals as goal
 
 pub overflow_add-len : goal.overflow_add-len
 overflow_add-len c =
-    let bytes = c.self.inside.bytes.items in
+    let bytes = c.self.inside.bytes in
+    let small : length c.as_slice-rest.result.now < 2 ^ 64 = search rules in
+    let same : length c.as_slice-rest.result.now ≡ length bytes = ap (λ (b : List ℕ). length b) c.as_slice-rest.ensures in
     let most : length c.args.self.now ≤ length bytes = subst (λ (rs : List Ref). length rs ≤ length bytes) c.self.view_is (few None bytes) in
-    let small = c.self.inside.bytes.small in
-    let room = c.self.inside.bytes.ok in
     let whole : c.loop-rest.len + length (refs_behind None c.loop-rest.rest.now) ≡ length c.args.self.now = c.loop-rest.invariant in
     Fits-of_lt (omega arith)
 

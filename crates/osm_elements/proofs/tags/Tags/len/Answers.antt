@@ -3,4 +3,4 @@ use Rattle.osm_elements.proofs.PackedLemmas.{as_many}
 use Rattle.osm_elements.proofs.tags.Tags.len.Goals as goal
 
 pub returns : goal.returns
-returns c = rw (← c.self.view_is, as_many c.self.inside.count c.self.inside.texts.items) (search rules)
+returns c = rw (← c.self.view_is, as_many c.self.inside.count c.self.inside.texts) (search rules)
