@@ -7,7 +7,8 @@ ghost use Rattle.chunked_list.specs.Parted.{IsParted};
 ghost use Rattle.chunked_list.specs.Starts.{starts_from};
 
 use crate::chunks::item;
-use crate::starts::end_of;
+use crate::ends::end_of;
+use crate::starts::Starts;
 use std::marker::Model;
 
 /// How many steps from a place are tried before all items are searched.
@@ -18,7 +19,7 @@ const STEPS: usize = 4;
 pub(crate) struct Search<'a, T> {
     pub(crate) chunks: &'a [Vec<T>],
     /// How many items stand before each chunk.
-    pub(crate) starts: &'a [usize],
+    pub(crate) starts: &'a Starts,
     pub(crate) len: usize,
     /// Only speed rests on it.
     pub(crate) near: usize,
@@ -187,7 +188,7 @@ impl<'a, T: Copy> Search<'a, T> {
             return self.len;
         }
         let inside = point_in(&self.chunks[self.near], test);
-        self.starts[self.near].saturating_add(inside).min(self.len)
+        self.starts.before(self.near).saturating_add(inside).min(self.len)
     }
 
     /// Whether the item at a place passes.

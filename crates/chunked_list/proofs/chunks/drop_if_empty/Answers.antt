@@ -3,7 +3,7 @@ use Rattle.std.specs.List.{flat_map}
 use Rattle.std.proofs.Math.Path.{ap, sym, ◌∙◌}
 use Rattle.std.proofs.lemmas.Grind.{common_steps}
 use Rattle.chunked_list.specs.Starts.{starts_from}
-use Rattle.chunked_list.proofs.Ends.{long}
+use Rattle.chunked_list.proofs.FirstItems.{long}
 use Rattle.chunked_list.proofs.Fronts.{starts-removed}
 use Rattle.chunked_list.proofs.Joined.{same-dropped}
 use Rattle.chunked_list.proofs.chunks.drop_if_empty.Goals as goal

@@ -2,7 +2,7 @@ use Rattle.std.proofs.Common.{arith, drop, insert, length, suc, ◌+◌, ◌/◌
 use Rattle.std.proofs.Math.ListN.{get_or}
 use Rattle.std.proofs.Math.Path.{ap, subst, sym, ◌∙◌}
 use Rattle.std.proofs.lemmas.List.{get_or_default, take_rest}
-use Rattle.chunked_list.proofs.Ends.{long, start}
+use Rattle.chunked_list.proofs.FirstItems.{long, start}
 use Rattle.chunked_list.proofs.Fronts.{front-within, next-front, starts-split}
 use Rattle.chunked_list.proofs.Joined.{same-split}
 use Rattle.chunked_list.proofs.chunks.part.Goals as goal

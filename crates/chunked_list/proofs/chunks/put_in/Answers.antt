@@ -3,7 +3,7 @@ use Rattle.std.specs.List.{flat_map}
 use Rattle.std.proofs.Math.Path.{subst, sym, ◌∙◌}
 use Rattle.std.proofs.lemmas.List.Edits.{length-insert}
 use Rattle.chunked_list.specs.Starts.{starts_from}
-use Rattle.chunked_list.proofs.Ends.{starts_fit}
+use Rattle.chunked_list.proofs.FirstItems.{starts_fit}
 use Rattle.chunked_list.proofs.Fronts.{starts-raised, starts-set}
 use Rattle.chunked_list.proofs.Joined.{insert-set, same-set}
 use Rattle.chunked_list.proofs.chunks.put_in.Goals as goal

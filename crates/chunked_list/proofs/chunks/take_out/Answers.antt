@@ -2,7 +2,7 @@ use Rattle.std.proofs.Common.{arith, ap, drop, length, map, suc, take, ◌+◌, 
 use Rattle.std.proofs.Math.Path.{subst, sym, ◌∙◌}
 use Rattle.std.proofs.lemmas.List.Edits.{length-remove}
 use Rattle.chunked_list.specs.Starts.{ItemsEnd, starts_from}
-use Rattle.chunked_list.proofs.Ends.{starts_behind}
+use Rattle.chunked_list.proofs.FirstItems.{starts_behind}
 use Rattle.chunked_list.proofs.Fronts.{starts-lowered}
 use Rattle.chunked_list.proofs.Joined.{found, item-at, remove-set}
 use Rattle.chunked_list.proofs.chunks.take_out.Goals as goal

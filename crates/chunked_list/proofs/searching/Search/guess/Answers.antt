@@ -1,5 +1,5 @@
 use Rattle.std.proofs.Common.{arith}
-use Rattle.chunked_list.proofs.Ends.{long}
+use Rattle.chunked_list.proofs.FirstItems.{long}
 use Rattle.chunked_list.proofs.searching.Search.guess.Goals as goal
 
 pub bounds-self-inside-self-inside-2 : goal.bounds-self-inside-self-inside-2

@@ -3,8 +3,8 @@ use Rattle.std.proofs.Common.{arith, length, slice_index_or, ◌-◌, ◌≤◌}
 use Rattle.std.proofs.Math.Path.{subst, sym, ap, ◌∙◌}
 use Rattle.std.proofs.lemmas.Bool.{leb-true}
 use Rattle.std.proofs.lemmas.List.{get_or_default}
-use Rattle.chunked_list.proofs.Ends.{end_here, long}
-use Rattle.chunked_list.proofs.starts.ends_in.Goals as goal
+use Rattle.chunked_list.proofs.FirstItems.{end_here, long}
+use Rattle.chunked_list.proofs.ends.ends_in.Goals as goal
 
 pub bounds-starts-chunk : goal.bounds-starts-chunk
 bounds-starts-chunk g c = let size = long (λ chunk. chunk.items) c.args.chunks.now c.args.starts.now c.requires in let test = c.if-chunk-chunks.false in omega arith
