@@ -4,7 +4,7 @@ use Rattle.std.proofs.Math.ListN.{get_or}
 use Rattle.std.proofs.Math.Path.{ap, refl, subst, sym}
 use Rattle.std.specs.List.{flat_map}
 use Rattle.std.proofs.lemmas.Bool.{cases_lt}
-use Rattle.std.proofs.lemmas.List.{get_or-drop, length-drop, take_all}
+use Rattle.std.proofs.lemmas.List.{get_or-drop, length-drop, take-take, take_all}
 use Rattle.chunked_list.specs.Starts.{ItemsEnd, starts_from}
 use Rattle.chunked_list.proofs.Fronts.{front-rises, front-within, length-starts, next-front, start-at}
 
@@ -51,11 +51,21 @@ module _ {X C : Type 0} (f : C → List X) (cs : List C) (ss : List ℕ) (starts
   pub starts_fit : length (flat_map f cs) + 1 < 2 ^ 64 → All (λ s. s + 1 < 2 ^ 64) ss
   starts_fit fits k d inside = omega (arith, long, start k d (omega (arith, long)), front-within f cs k)
 
-  -- an item stands before each list behind one that has an item
-  pub starts_behind : (i within count : ℕ) (b : C) → ItemsEnd f cs i within count → 0 < within → All (λ s. 0 < s) (drop (i + 1) ss)
+  -- more items stand before each list behind one that has an item than before that one
+  pub starts_behind : (i within count : ℕ) (b : C) → ItemsEnd f cs i within count → 0 < within → All (λ s. get_or ss i 0 < s) (drop (i + 1) ss)
   starts_behind i within count b end some k d inside =
       let behind : i + 1 + k < length ss = omega (arith, inside, length-drop (i + 1) ss) in
       let is = start (i + 1 + k) d (omega (arith, long)) in
       let more = front-rises f cs (suc i) (i + 1 + k) (omega arith) in
-      let first : 0 < get_or ss (i + 1 + k) d = omega (arith, is, more, next-front f cs i b end.inside, end.reach b) in
-      subst (λ s. 0 < s) (sym (get_or-drop (i + 1) ss k d)) first
+      let first : get_or ss i 0 < get_or ss (i + 1 + k) d = omega (arith, is, start i 0 end.inside, more, next-front f cs i b end.inside, end.reach b) in
+      subst (λ s. get_or ss i 0 < s) (sym (get_or-drop (i + 1) ss k d)) first
+
+  -- ---- the lists before one are as they were
+
+  pub count_alike : (new : List C) (i : ℕ) → take i new ≡ take i cs → i < length cs → get_or ss i 0 ≡ length (flat_map f (take i new))
+  count_alike new i alike inside = start i 0 inside ∙ ap (λ ds. length (flat_map f ds)) (sym alike)
+
+  pub counted_alike : (new : List C) (i : ℕ) (ts : List ℕ) → take i new ≡ take i cs → i ≤ length cs → ((k : ℕ) → k < i → get_or ts k 0 ≡ get_or ss k 0) → (k : ℕ) → k < i → get_or ts k 0 ≡ length (flat_map f (take k new))
+  counted_alike new i ts alike within same k below =
+      let front : take k new ≡ take k cs = sym (take-take k i new (omega arith)) ∙ ap (take k) alike ∙ take-take k i cs (omega arith) in
+      same k below ∙ start k 0 (omega arith) ∙ ap (λ ds. length (flat_map f ds)) (sym front)

@@ -81,7 +81,7 @@ fn drop_if_empty<T: Copy>(chunks: &mut Vec<Vec<T>>, starts: &mut Starts, chunk: 
     if !chunks[chunk].is_empty() {
         return;
     }
-    let start = starts.before(chunk);
+    let start = starts.start_of(chunk);
     chunks.remove(chunk);
     starts.shrink();
     starts.recount(chunks, chunk, start);
@@ -148,7 +148,7 @@ fn part<T: Copy>(
     ensures some { 0 < length chunks.new.items }
 {
     let half = chunks[chunk].len() / 2;
-    let start = starts.before(chunk);
+    let start = starts.start_of(chunk);
     let upper = Vec::from_slice(alloc, &chunks[chunk][half..])?;
     add_chunk(chunks, starts, chunk + 1, upper)?;
     chunks[chunk].truncate(half);

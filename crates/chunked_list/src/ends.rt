@@ -21,7 +21,7 @@ fn ends_in<T>(chunks: &[Vec<T>], starts: &Starts, chunk: usize, count: usize) ->
     if chunk >= chunks.len() {
         return false;
     }
-    let start = starts.before(chunk);
+    let start = starts.start_of(chunk);
     if start >= count {
         return false;
     }
@@ -42,7 +42,7 @@ fn chunk_by_halves<T>(chunks: &[Vec<T>], starts: &Starts, count: usize) -> usize
     let mut high = chunks.len();
     while high - low > 1 {
         let middle = low + (high - low) / 2;
-        if starts.before(middle) < count {
+        if starts.start_of(middle) < count {
             low = middle;
         } else {
             high = middle;
@@ -63,12 +63,12 @@ pub(crate) fn end_of<T>(chunks: &[Vec<T>], starts: &Starts, near: usize, count: 
     if ends_in(chunks, starts, near, count) {
         return End {
             chunk: near,
-            within: count - starts.before(near),
+            within: count - starts.start_of(near),
         };
     }
     let chunk = chunk_by_halves(chunks, starts, count);
     End {
         chunk,
-        within: count - starts.before(chunk),
+        within: count - starts.start_of(chunk),
     }
 }

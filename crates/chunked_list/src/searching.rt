@@ -188,7 +188,7 @@ impl<'a, T: Copy> Search<'a, T> {
             return self.len;
         }
         let inside = point_in(&self.chunks[self.near], test);
-        self.starts.before(self.near).saturating_add(inside).min(self.len)
+        self.starts.start_of(self.near).saturating_add(inside).min(self.len)
     }
 
     /// Whether the item at a place passes.

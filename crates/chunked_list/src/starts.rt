@@ -39,7 +39,7 @@ impl Starts {
     }
 
     /// How many items stand before a chunk.
-    pub(crate) fn before(&self, chunk: usize) -> usize
+    pub(crate) fn start_of(&self, chunk: usize) -> usize
         requires { chunk < length self.now }
         ensures { result ≡ slice_index_or self.now chunk 0 }
     {

@@ -4,8 +4,8 @@ use Rattle.std.proofs.Math.Path.{subst}
 use Rattle.chunked_list.proofs.FirstItems.{end_by_halves, long}
 use Rattle.chunked_list.proofs.ends.chunk_by_halves.Goals as goal
 
-pub before-requires : goal.before-requires
-before-requires g c =
+pub start_of-requires : goal.start_of-requires
+start_of-requires g c =
     let size = long (λ chunk. chunk.items) c.args.chunks.now c.args.starts.now c.requires.starts in
     let (up, most, fewer, next) = c.loop-high.invariant in let test = c.loop-high-test.true in omega arith
 

@@ -3,7 +3,7 @@ use Rattle.std.proofs.Math.ListN.{get_or}
 use Rattle.std.proofs.Math.Path.{ap, ◌∙◌}
 use Rattle.std.proofs.lemmas.List.{get_or_default}
 use Rattle.chunked_list.proofs.Summed.{at, base, long}
-use Rattle.chunked_list.proofs.starts.Starts.before.Goals as goal
+use Rattle.chunked_list.proofs.starts.Starts.start_of.Goals as goal
 
 pub before_block-requires : goal.before_block-requires
 before_block-requires c =
