@@ -19,8 +19,8 @@ module _ (f : ℕ → ℕ) (from : ℕ) (ns : List ℕ) where
         long = length-set ms i m ∙ long;
         below = λ k below. get_or-set_other ms i k m 0 (λ at. absurd (omega arith)) ∙ are.below k below;
         there = λ k up' below. ⊎_elim
-          (λ (at : k ≡ i). ap (λ j. get_or (set ms i m) j 0) at ∙ same ∙ ap (λ j. f (get_or ns j 0)) (sym at))
-          (λ (at : k ≡ i → ⊥). get_or-set_other ms i k m 0 at ∙ are.there k up' (omega arith))
-          (cases_eq k i);
+            (λ (at : k ≡ i). ap (λ j. get_or (set ms i m) j 0) at ∙ same ∙ ap (λ j. f (get_or ns j 0)) (sym at))
+            (λ (at : k ≡ i → ⊥). get_or-set_other ms i k m 0 at ∙ are.there k up' (omega arith))
+            (cases_eq k i);
         above = λ k up'. get_or-set_other ms i k m 0 (λ at. absurd (omega arith)) ∙ are.above k (omega arith);
       }

@@ -1,7 +1,7 @@
 -- How many items stand before each chunk, counted one after another.
 use Rattle.std.proofs.Common.{arith, length, List, ◌+◌, ◌-◌, ◌*◌, ◌/◌, ◌%◌, ◌∷◌, ◌<◌, ◌≡◌, ◌≤◌, ◌^◌, suc, take, zero, ℕ, ⊎_elim}
 use Rattle.std.proofs.Math.ListN.{get_or}
-use Rattle.std.proofs.Math.Path.{ap, refl, sym, ◌∙◌}
+use Rattle.std.proofs.Math.Path.{ap, sym, ◌∙◌}
 use Rattle.std.specs.List.{flat_map}
 use Rattle.std.proofs.lemmas.Bool.{cases_eq, cases_lt}
 use Rattle.std.proofs.lemmas.List.{ext_get_or, get_or_past}
@@ -24,13 +24,13 @@ module _ {X C : Type 0} (f : C → List X) (cs : List C) (bs ws : List ℕ) wher
   pub base_below : (i count : ℕ) → IsCounted f cs bs ws i count → (Begins i → ⊥) → base bs i ≤ count
   base_below zero count are begins = omega arith
   base_below (suc i) count are begins = ⊎_elim
-    (λ (whole : suc i % 64 ≡ 0). absurd (begins (record { some = omega arith; whole = whole })))
-    (λ (rest : suc i % 64 ≡ 0 → ⊥).
-    let same : suc i / 64 ≡ i / 64 = ⊎_elim (λ (e : i % 64 ≡ 63). absurd (rest (omega arith))) (λ (e : i % 64 ≡ 63 → ⊥). omega arith) (cases_eq (i % 64) 63) in
-    let one : base bs (suc i) ≡ base bs i = ap (λ j. get_or (0 ∷ bs) j 0) same in
-    let two = are.sums i (omega arith) in let three = are.here in
-    omega (arith, one, two, three, front-rises f cs i (suc i) (omega arith)))
-    (cases_eq (suc i % 64) 0)
+      (λ (whole : suc i % 64 ≡ 0). absurd (begins (record { some = omega arith; whole = whole })))
+      (λ (rest : suc i % 64 ≡ 0 → ⊥).
+      let same : suc i / 64 ≡ i / 64 = ⊎_elim (λ (e : i % 64 ≡ 63). absurd (rest (omega arith))) (λ (e : i % 64 ≡ 63 → ⊥). omega arith) (cases_eq (i % 64) 63) in
+      let one : base bs (suc i) ≡ base bs i = ap (λ j. get_or (0 ∷ bs) j 0) same in
+      let two = are.sums i (omega arith) in let three = are.here in
+      omega (arith, one, two, three, front-rises f cs i (suc i) (omega arith)))
+      (cases_eq (suc i % 64) 0)
 
   pub counted_more : (new_bs new_ws : List ℕ) (i count size : ℕ) (c : C) → i < length cs → size ≡ length (f (get_or cs i c)) → IsCounted f cs bs ws i count → IsNoted i count bs ws new_bs new_ws → IsCounted f cs new_bs new_ws (i + 1) (count + size)
   counted_more new_bs new_ws i count size c inside own are noted =
@@ -42,19 +42,19 @@ module _ {X C : Type 0} (f : C → List X) (cs : List C) (bs ws : List ℕ) wher
         enough = let enough = are.enough in omega arith;
         long = let long = are.long in omega arith;
         first = λ k below. ⊎_elim
-          (λ (at : 64 * k ≡ i). ap (λ j. get_or new_ws j 0) at ∙ first_here k at)
-          (λ (at : 64 * k ≡ i → ⊥). noted.others_within (64 * k) (omega arith) ∙ are.first k (omega arith))
-          (cases_eq (64 * k) i);
+            (λ (at : 64 * k ≡ i). ap (λ j. get_or new_ws j 0) at ∙ first_here k at)
+            (λ (at : 64 * k ≡ i → ⊥). noted.others_within (64 * k) (omega arith) ∙ are.first k (omega arith))
+            (cases_eq (64 * k) i);
         here = omega (arith, next-front f cs i c inside, ap (λ j. length (flat_map f (take j cs))) next);
         sums = λ k below. ⊎_elim
-          (λ (before : k < i). let one = noted.others k before in let two = noted.others_within k before in let three = are.sums k before in omega arith)
-          (λ (at : i ≤ k). let same : k ≡ i = omega arith in ap (λ j. base new_bs j + get_or new_ws j 0) same ∙ sum ∙ here ∙ ap (λ j. length (flat_map f (take j cs))) (sym same))
-          (cases_lt k i);
+            (λ (before : k < i). let one = noted.others k before in let two = noted.others_within k before in let three = are.sums k before in omega arith)
+            (λ (at : i ≤ k). let same : k ≡ i = omega arith in ap (λ j. base new_bs j + get_or new_ws j 0) same ∙ sum ∙ here ∙ ap (λ j. length (flat_map f (take j cs))) (sym same))
+            (cases_lt k i);
       }
-      where
-        first_here : (k : ℕ) → 64 * k ≡ i → get_or new_ws i 0 ≡ 0
-        first_here zero at = let none : i ≡ 0 = omega arith in let sum = noted.sum in let here = are.here in omega (arith, sum, here, ap (λ j. length (flat_map f (take j cs))) none)
-        first_here (suc k) at = noted.first (record { some = omega arith; whole = omega arith })
+    where
+      first_here : (k : ℕ) → 64 * k ≡ i → get_or new_ws i 0 ≡ 0
+      first_here zero at = let none : i ≡ 0 = omega arith in let sum = noted.sum in let here = are.here in omega (arith, sum, here, ap (λ j. length (flat_map f (take j cs))) none)
+      first_here (suc k) at = noted.first (record { some = omega arith; whole = omega arith })
 
   pub count_fits : (i count size : ℕ) (c : C) → i < length cs → size ≡ length (f (get_or cs i c)) → IsCounted f cs bs ws i count → count + size ≤ length (flat_map f cs)
   count_fits i count size c inside own are = let here = are.here in omega (arith, own, here, next-front f cs i c inside, front-within f cs (suc i))
@@ -85,8 +85,8 @@ module _ {X C : Type 0} (f : C → List X) (cs : List C) (bs ws : List ℕ) wher
       few = are.few;
       enough = are.enough;
       first = λ k. ⊎_elim
-        (λ (inside : 64 * k < i). are.first k inside)
-        (λ (past : i ≤ 64 * k). get_or_past ws (64 * k) 0 (let long = are.long in omega arith))
-        (cases_lt (64 * k) i);
+          (λ (inside : 64 * k < i). are.first k inside)
+          (λ (past : i ≤ 64 * k). get_or_past ws (64 * k) 0 (let long = are.long in omega arith))
+          (cases_lt (64 * k) i);
       fits = λ k inside. let sum = are.sums k (let long = are.long in omega arith) in omega (arith, sum, fits, front-within f cs k);
     }

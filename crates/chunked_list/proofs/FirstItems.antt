@@ -1,7 +1,7 @@
 -- Where the first items of lists that stand one after the other end.
-use Rattle.std.proofs.Common.{All, arith, drop, false, length, nat_lt, true, List, ◌+◌, ◌-◌, ◌<◌, ◌^◌, ◌∙◌, ◌≡◌, ◌≤◌, suc, take, zero, ℕ, ⊎_elim}
+use Rattle.std.proofs.Common.{All, arith, drop, length, List, ◌+◌, ◌-◌, ◌<◌, ◌^◌, ◌∙◌, ◌≡◌, ◌≤◌, suc, take, ℕ, ⊎_elim}
 use Rattle.std.proofs.Math.ListN.{get_or}
-use Rattle.std.proofs.Math.Path.{ap, refl, subst, sym}
+use Rattle.std.proofs.Math.Path.{ap, subst, sym}
 use Rattle.std.specs.List.{flat_map}
 use Rattle.std.proofs.lemmas.Bool.{cases_lt}
 use Rattle.std.proofs.lemmas.List.{get_or-drop, length-drop, take-take, take_all}

@@ -1,7 +1,7 @@
 -- How many items stand before each of some lists, when one of them changes.
-use Rattle.std.proofs.Common.{All, arith, drop, insert, length, map, remove, List, [], ◌++◌, ◌+◌, ◌-◌, ◌∷◌, ◌<◌, ◌≡◌, ◌≤◌, suc, take, zero, ℕ}
+use Rattle.std.proofs.Common.{arith, drop, length, map, List, [], ◌++◌, ◌+◌, ◌-◌, ◌∷◌, ◌<◌, ◌≡◌, ◌≤◌, suc, take, zero, ℕ}
 use Rattle.std.proofs.Math.ListN.{get_or, set}
-use Rattle.std.proofs.Math.Path.{ap, refl, sym, ◌∙◌}
+use Rattle.std.proofs.Math.Path.{ap, refl, ◌∙◌}
 use Rattle.std.specs.List.{flat_map}
 use Rattle.std.proofs.lemmas.List.{length-append}
 use Rattle.chunked_list.specs.Starts.{starts_from}

@@ -4,7 +4,7 @@ use Rattle.std.proofs.Math.ListN.{get_or, set}
 use Rattle.std.proofs.Math.Nat.{not-suc-le-zero}
 use Rattle.std.proofs.Math.Path.{ap, refl, sym, subst, ◌∙◌}
 use Rattle.std.specs.List.{flat_map}
-use Rattle.std.proofs.lemmas.List.{append_assoc, length-append, drop_more, get_or_default, length-take-le, set-append_left, set-append_right, set_split, take-append-drop, take-append-le, take-set, take-take}
+use Rattle.std.proofs.lemmas.List.{append_assoc, drop_more, get_or_default, length-take-le, set-append_left, set-append_right, set_split, take-append-drop, take-append-le, take-set, take-take}
 use Rattle.std.proofs.lemmas.List.Concat.{flat_map-append, get_or-flat_map}
 use Rattle.std.proofs.lemmas.List.Edits.{get_or-insert_below, insert-append_left, insert-append_right, remove-append_left, remove-append_right}
 use Rattle.chunked_list.specs.Starts.{ItemsEnd}

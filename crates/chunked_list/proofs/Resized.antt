@@ -1,7 +1,7 @@
 -- Numbers in blocks: one more at the end, which is 0, or one fewer.
 use Rattle.std.proofs.Common.{arith, length, List, [], ◌++◌, ◌+◌, ◌-◌, ◌*◌, ◌/◌, ◌%◌, ◌∷◌, ◌<◌, ◌≡◌, ◌≤◌, ◌^◌, suc, take, zero, ℕ, ⊎_elim}
 use Rattle.std.proofs.Math.ListN.{get_or}
-use Rattle.std.proofs.Math.Path.{ap, refl, sym, ◌∙◌}
+use Rattle.std.proofs.Math.Path.{ap, refl, ◌∙◌}
 use Rattle.std.proofs.lemmas.Bool.{cases_eq, cases_lt}
 use Rattle.std.proofs.lemmas.List.{get_or-take, get_or_past, length-take-le, length_push}
 use Rattle.chunked_list.specs.Blocks.{AreBlocks, Begins, sums_from}
@@ -56,12 +56,12 @@ next_fits : (bs ws : List ℕ) → AreBlocks bs ws → (Begins (length ws) → �
 next_fits bs ws blocks goes_on = ⊎_elim
     (λ (none : length ws ≡ 0). let here : length ws / 64 ≡ 0 = omega arith in let same : base bs (length ws) ≡ 0 = ap (λ j. get_or (0 ∷ bs) j 0) here in omega arith)
     (λ (some : length ws ≡ 0 → ⊥). ⊎_elim
-      (λ (whole : length ws % 64 ≡ 0). absurd (goes_on (record { some = omega arith; whole = whole })))
-      (λ (rest : length ws % 64 ≡ 0 → ⊥).
-      let same : 64 * (length ws / 64) / 64 ≡ length ws / 64 = omega arith in
-      let fits = blocks.fits (64 * (length ws / 64)) (omega arith) in
-      let one : base bs (64 * (length ws / 64)) ≡ base bs (length ws) = ap (λ j. get_or (0 ∷ bs) j 0) same in omega arith)
-      (cases_eq (length ws % 64) 0))
+    (λ (whole : length ws % 64 ≡ 0). absurd (goes_on (record { some = omega arith; whole = whole })))
+    (λ (rest : length ws % 64 ≡ 0 → ⊥).
+    let same : 64 * (length ws / 64) / 64 ≡ length ws / 64 = omega arith in
+    let fits = blocks.fits (64 * (length ws / 64)) (omega arith) in
+    let one : base bs (64 * (length ws / 64)) ≡ base bs (length ws) = ap (λ j. get_or (0 ∷ bs) j 0) same in omega arith)
+    (cases_eq (length ws % 64) 0))
     (cases_eq (length ws) 0)
 
 pub blocks_grown : (bs ws ws' : List ℕ) → AreBlocks bs ws → (Begins (length ws) → ⊥) → ws' ≡ ws ++ 0 ∷ [] → AreBlocks bs ws'
@@ -72,17 +72,17 @@ blocks_grown bs ws ws' blocks goes_on pushed =
     record {
       few = omega arith;
       enough = ⊎_elim
-        (λ (full : length ws ≡ 64 * length bs + 64). absurd (goes_on (record { some = omega arith; whole = omega arith })))
-        (λ (room : length ws ≡ 64 * length bs + 64 → ⊥). omega arith)
-        (cases_eq (length ws) (64 * length bs + 64));
+          (λ (full : length ws ≡ 64 * length bs + 64). absurd (goes_on (record { some = omega arith; whole = omega arith })))
+          (λ (room : length ws ≡ 64 * length bs + 64 → ⊥). omega arith)
+          (cases_eq (length ws) (64 * length bs + 64));
       first = λ k. number (64 * k) ∙ blocks.first k;
       fits = λ k inside. ⊎_elim
-        (λ (old : k < length ws). let fit = blocks.fits k old in let same = number k in omega arith)
-        (λ (new : length ws ≤ k).
-        let here : k ≡ length ws = omega arith in
-        let next = next_fits bs ws blocks goes_on in let same : base bs k ≡ base bs (length ws) = ap (λ j. base bs j) here in
-        let zero_there = number k ∙ get_or_past ws k 0 new in omega arith)
-        (cases_lt k (length ws));
+          (λ (old : k < length ws). let fit = blocks.fits k old in let same = number k in omega arith)
+          (λ (new : length ws ≤ k).
+          let here : k ≡ length ws = omega arith in
+          let next = next_fits bs ws blocks goes_on in let same : base bs k ≡ base bs (length ws) = ap (λ j. base bs j) here in
+          let zero_there = number k ∙ get_or_past ws k 0 new in omega arith)
+          (cases_lt k (length ws));
     }
 
 pub blocks_grown_by_block : (bs ws bs' ws' : List ℕ) → AreBlocks bs ws → Begins (length ws) → bs' ≡ bs ++ 0 ∷ [] → ws' ≡ ws ++ 0 ∷ [] → AreBlocks bs' ws'
@@ -95,9 +95,9 @@ blocks_grown_by_block bs ws bs' ws' blocks begins pushed_block pushed =
       enough = omega arith;
       first = λ k. number (64 * k) ∙ blocks.first k;
       fits = λ k inside. let base_same = same_base_pushed bs bs' pushed_block k in let same = number k in ⊎_elim
-        (λ (old : k < length ws). let fit = blocks.fits k old in omega arith)
-        (λ (new : length ws ≤ k).
-        let zero_there = get_or_past ws k 0 new in
-        let block_zero : get_or (0 ∷ bs) (k / 64) 0 ≡ 0 = get_or_past (0 ∷ bs) (k / 64) 0 (omega arith) in omega arith)
-        (cases_lt k (length ws));
+          (λ (old : k < length ws). let fit = blocks.fits k old in omega arith)
+          (λ (new : length ws ≤ k).
+          let zero_there = get_or_past ws k 0 new in
+          let block_zero : get_or (0 ∷ bs) (k / 64) 0 ≡ 0 = get_or_past (0 ∷ bs) (k / 64) 0 (omega arith) in omega arith)
+          (cases_lt k (length ws));
     }

@@ -61,14 +61,14 @@ module _ (f : ℕ → ℕ) (place end : ℕ) (bs ws bs' ws' : List ℕ)
 
   changed_sum : (k : ℕ) → place < k → k < length ws → base bs' k + get_or ws' k 0 ≡ f (base bs k + get_or ws k 0)
   changed_sum k behind inside = ⊎_elim
-    (λ (here : k < end).
-    let one = same_base f (place / 64) bs bs' bs_are (k / 64) (let most = ends.block in omega arith) in
-    ap (λ b. b + get_or ws' k 0) one ∙ ap (λ w. base bs k + w) (ws_are.there k (omega arith) here) ∙ own k behind here)
-    (λ (past : end ≤ k).
-    let later = ends.last k past inside in
-    let one = changed_base f (place / 64) bs bs' bs_are (k / 64) (omega arith) (let most = blocks.enough in omega arith) in
-    ap (λ b. b + get_or ws' k 0) one ∙ ap (λ w. f (base bs k) + w) (ws_are.above k past) ∙ all k past inside)
-    (cases_lt k end)
+      (λ (here : k < end).
+      let one = same_base f (place / 64) bs bs' bs_are (k / 64) (let most = ends.block in omega arith) in
+      ap (λ b. b + get_or ws' k 0) one ∙ ap (λ w. base bs k + w) (ws_are.there k (omega arith) here) ∙ own k behind here)
+      (λ (past : end ≤ k).
+      let later = ends.last k past inside in
+      let one = changed_base f (place / 64) bs bs' bs_are (k / 64) (omega arith) (let most = blocks.enough in omega arith) in
+      ap (λ b. b + get_or ws' k 0) one ∙ ap (λ w. f (base bs k) + w) (ws_are.above k past) ∙ all k past inside)
+      (cases_lt k end)
 
   pub sums_changed : sums_from (0 ∷ bs') 0 ws' ≡ take (place + 1) (sums_from (0 ∷ bs) 0 ws) ++ map f (drop (place + 1) (sums_from (0 ∷ bs) 0 ws))
   sums_changed =
@@ -86,15 +86,15 @@ module _ (f : ℕ → ℕ) (place end : ℕ) (bs ws bs' ws' : List ℕ)
     few = let few = blocks.few in let one = ws_are.long in let two = bs_are.long in omega arith;
     enough = let enough = blocks.enough in let one = ws_are.long in let two = bs_are.long in omega arith;
     first = λ k. ⊎_elim
-      (λ (up : 64 * k < place + 1). ws_are.below (64 * k) up ∙ blocks.first k)
-      (λ (behind : place + 1 ≤ 64 * k). ws_are.above (64 * k) (let most = ends.block in omega arith) ∙ blocks.first k)
-      (cases_lt (64 * k) (place + 1));
+        (λ (up : 64 * k < place + 1). ws_are.below (64 * k) up ∙ blocks.first k)
+        (λ (behind : place + 1 ≤ 64 * k). ws_are.above (64 * k) (let most = ends.block in omega arith) ∙ blocks.first k)
+        (cases_lt (64 * k) (place + 1));
     fits = λ k inside.
-      let there : k < length ws = (let one = ws_are.long in omega arith) in
-      ⊎_elim
-      (λ (up : k < place + 1). let same = same_sum k (omega arith) in let old = blocks.fits k there in omega arith)
-      (λ (behind : place + 1 ≤ k). let new = changed_sum k (omega arith) there in let old = fit k there in omega arith)
-      (cases_lt k (place + 1));
+        let there : k < length ws = (let one = ws_are.long in omega arith) in
+        ⊎_elim
+        (λ (up : k < place + 1). let same = same_sum k (omega arith) in let old = blocks.fits k there in omega arith)
+        (λ (behind : place + 1 ≤ k). let new = changed_sum k (omega arith) there in let old = fit k there in omega arith)
+        (cases_lt k (place + 1));
   }
 
 -- the first of a later block has its block's number

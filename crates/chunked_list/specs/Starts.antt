@@ -1,5 +1,5 @@
 -- How many items stand before each chunk, and where so many items end. No public contract cites it.
-use Rattle.std.specs.Prelude.{◌≡◌, ◌<◌, ◌≤◌, ◌+◌, ◌-◌, ◌*◌, ◌/◌, ◌^◌, List, [], ◌∷◌, length, slice_index_or, take, ℕ}
+use Rattle.std.specs.Prelude.{◌≡◌, ◌<◌, ◌≤◌, ◌+◌, List, [], ◌∷◌, length, slice_index_or, take, ℕ}
 use Rattle.std.specs.List.{flat_map}
 
 -- how many items stand before each chunk, if so many stand before the first

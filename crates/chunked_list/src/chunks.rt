@@ -3,7 +3,7 @@ ghost use Rattle.std.specs.Prelude.{◌≡◌, ◌<◌, ◌≤◌, ◌+◌, ◌^
 ghost use Rattle.std.specs.List.{flat_map};
 ghost use Rattle.chunked_list.specs.Starts.{ItemsEnd, starts_from};
 
-use crate::ends::{End, end_of};
+use crate::ends::{End, end_by_halves, end_of};
 use crate::starts::Starts;
 use std::alloc::{AllocError as OutOfMemory, Global};
 
@@ -15,6 +15,50 @@ fn longest(chunks: usize) -> usize {
     SHORT.saturating_add(chunks / 16)
 }
 
+/// How many items stand before the chunk `near`, if there is one.
+pub(crate) fn start_near<T>(chunks: &[Vec<T>], starts: &Starts, near: usize) -> usize
+    requires { starts.now ≡ starts_from (λ c. c.items) 0 chunks.now }
+    ensures { near < length chunks.now → result ≡ slice_index_or starts.now near 0 }
+{
+    if near >= chunks.len() {
+        return 0;
+    }
+    starts.start_of(near)
+}
+
+/// The item at a place, looked for by halves.
+// Apart, so that the usual way is short enough to be inlined.
+#[inline(never)]
+fn item_by_halves<T: Copy>(chunks: &[Vec<T>], starts: &Starts, place: usize) -> T
+    requires starts { starts.now ≡ starts_from (λ c. c.items) 0 chunks.now }
+    requires fits { place + 1 < 2 ^ 64 }
+    requires inside { place < length (flat_map (λ c. c.items) chunks.now) }
+    ensures { (d : T) → result ≡ slice_index_or (flat_map (λ c. c.items) chunks.now) place d }
+{
+    let end = end_by_halves(chunks, starts, place + 1);
+    chunks[end.chunk][end.within - 1]
+}
+
+/// The item at a place. It is looked for first in the chunk `near`, before which so many stand, if there is one.
+pub(crate) fn item_from<T: Copy>(
+    chunks: &[Vec<T>],
+    starts: &Starts,
+    near: usize,
+    start: usize,
+    place: usize,
+) -> T
+    requires starts { starts.now ≡ starts_from (λ c. c.items) 0 chunks.now }
+    requires near { near < length chunks.now → start ≡ slice_index_or starts.now near 0 }
+    requires fits { place + 1 < 2 ^ 64 }
+    requires inside { place < length (flat_map (λ c. c.items) chunks.now) }
+    ensures { (d : T) → result ≡ slice_index_or (flat_map (λ c. c.items) chunks.now) place d }
+{
+    if near < chunks.len() && start <= place && place - start < chunks[near].len() {
+        return chunks[near][place - start];
+    }
+    item_by_halves(chunks, starts, place)
+}
+
 /// The item at a place, looked for in the chunk `near` first.
 pub(crate) fn item<T: Copy>(chunks: &[Vec<T>], starts: &Starts, near: usize, place: usize) -> T
     requires starts { starts.now ≡ starts_from (λ c. c.items) 0 chunks.now }
@@ -22,8 +66,8 @@ pub(crate) fn item<T: Copy>(chunks: &[Vec<T>], starts: &Starts, near: usize, pla
     requires inside { place < length (flat_map (λ c. c.items) chunks.now) }
     ensures { (d : T) → result ≡ slice_index_or (flat_map (λ c. c.items) chunks.now) place d }
 {
-    let end = end_of(chunks, starts, near, place + 1);
-    chunks[end.chunk][end.within - 1]
+    let start = start_near(chunks, starts, near);
+    item_from(chunks, starts, near, start, place)
 }
 
 /// Puts an item in the place of another, looked for in the chunk `near` first. Gives its chunk.

@@ -29,8 +29,6 @@ fn ends_in<T>(chunks: &[Vec<T>], starts: &Starts, chunk: usize, count: usize) ->
 }
 
 /// The last chunk before which fewer items stand; the first, if none has fewer.
-// Apart, so that the usual way is short enough to be inlined.
-#[inline(never)]
 fn chunk_by_halves<T>(chunks: &[Vec<T>], starts: &Starts, count: usize) -> usize
     requires some { 0 < length chunks.now }
     requires starts { starts.now ≡ starts_from (λ c. c.items) 0 chunks.now }
@@ -51,6 +49,22 @@ fn chunk_by_halves<T>(chunks: &[Vec<T>], starts: &Starts, count: usize) -> usize
     low
 }
 
+/// Where so many items end, looked for by halves.
+// Apart, so that the usual way is short enough to be inlined.
+#[inline(never)]
+pub(crate) fn end_by_halves<T>(chunks: &[Vec<T>], starts: &Starts, count: usize) -> End
+    requires some { 0 < length chunks.now }
+    requires starts { starts.now ≡ starts_from (λ c. c.items) 0 chunks.now }
+    requires within { count ≤ length (flat_map (λ c. c.items) chunks.now) }
+    ensures { ItemsEnd (λ c. c.items) chunks.now result.chunk result.within count }
+{
+    let chunk = chunk_by_halves(chunks, starts, count);
+    End {
+        chunk,
+        within: count - starts.start_of(chunk),
+    }
+}
+
 /// Where so many items end.
 ///
 /// Ways: in the chunk `near`; in all others by halves.
@@ -66,9 +80,5 @@ pub(crate) fn end_of<T>(chunks: &[Vec<T>], starts: &Starts, near: usize, count: 
             within: count - starts.start_of(near),
         };
     }
-    let chunk = chunk_by_halves(chunks, starts, count);
-    End {
-        chunk,
-        within: count - starts.start_of(chunk),
-    }
+    end_by_halves(chunks, starts, count)
 }

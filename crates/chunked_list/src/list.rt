@@ -145,12 +145,7 @@ impl<T: Copy> ChunkedList<T> {
             → told ≡ p x) → IsPartitionedBy p self.now
             → IsPartitionPoint (λ x. p x ≡ true) (λ x. p x ≡ false) self.now result }
     {
-        let search = Search {
-            chunks: &self.chunks,
-            starts: &self.starts,
-            len: self.len,
-            near: self.near,
-        };
+        let search = Search::new(&self.chunks, &self.starts, self.len, self.near);
         search.near(near).point(near, &test)
     }
 

@@ -1,6 +1,6 @@
-use Rattle.std.proofs.Common.{arith, length, [], ◌<◌, ◌≡◌, ◌^◌}
+use Rattle.std.proofs.Common.{arith, length, [], ◌≡◌}
 use Rattle.std.specs.List.{flat_map}
-use Rattle.std.proofs.Math.Path.{ap, refl, ◌∙◌}
+use Rattle.std.proofs.Math.Path.{ap, ◌∙◌}
 use Rattle.std.proofs.lemmas.Grind.{common_steps}
 use Rattle.std.proofs.lemmas.List.Edits.{length-insert}
 use Rattle.chunked_list.specs.Starts.{starts_from}

@@ -1,4 +1,4 @@
-use Rattle.std.proofs.Common.{arith, drop, length, take, ◌+◌, ◌/◌, ◌<◌, ◌≡◌, ◌^◌}
+use Rattle.std.proofs.Common.{arith, drop, length, take, ◌+◌, ◌/◌, ◌<◌, ◌^◌}
 use Rattle.std.specs.List.{flat_map}
 use Rattle.std.proofs.Math.ListN.{set}
 use Rattle.std.proofs.Math.Path.{ap, subst, sym, ◌∙◌}

@@ -1,5 +1,4 @@
 use Rattle.std.proofs.Common.{arith, ap, drop, length, map, insert, suc, take, ◌+◌, ◌++◌, ◌<◌, ◌≡◌, ◌≤◌, ◌^◌}
-use Rattle.std.specs.List.{flat_map}
 use Rattle.std.proofs.Math.Path.{subst, sym, ◌∙◌}
 use Rattle.std.proofs.lemmas.List.Edits.{length-insert}
 use Rattle.chunked_list.specs.Starts.{starts_from}

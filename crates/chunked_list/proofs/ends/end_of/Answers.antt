@@ -15,14 +15,3 @@ overflow_sub-result g c =
 
 pub returns-then-ends_in : goal.returns-then-ends_in
 returns-then-ends_in g c = subst (λ n. ItemsEnd (λ chunk. chunk.items) c.args.chunks.now c.args.near (c.args.count - n) c.args.count) (sym c.start_of.ensures) (c.ends_in.ensures c.if-ends_in.true)
-
-pub start_of-requires-2 : goal.start_of-requires-2
-start_of-requires-2 g c = let size = long (λ chunk. chunk.items) c.args.chunks.now c.args.starts.now c.requires.starts in let inside = c.chunk_by_halves-chunk.ensures.inside in omega arith
-
-pub overflow_sub-result-2 : goal.overflow_sub-result-2
-overflow_sub-result-2 g c =
-    let below = start_below (λ chunk. chunk.items) c.args.chunks.now c.args.starts.now c.requires.starts c.chunk_by_halves-chunk.result c.args.count c.chunk_by_halves-chunk.ensures in
-    let start = c.start_of-2.ensures in omega arith
-
-pub returns : goal.returns
-returns g c = subst (λ n. ItemsEnd (λ chunk. chunk.items) c.args.chunks.now c.chunk_by_halves-chunk.result (c.args.count - n) c.args.count) (sym c.start_of-2.ensures) c.chunk_by_halves-chunk.ensures

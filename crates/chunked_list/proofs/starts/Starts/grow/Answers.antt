@@ -1,6 +1,5 @@
-use Rattle.std.proofs.Common.{arith, rules, length, take, [], ◌++◌, ◌-◌, ◌∷◌, ◌≡◌}
-use Rattle.std.proofs.Math.Path.{ap, refl, subst, sym, ◌∙◌}
-use Rattle.std.proofs.lemmas.Grind.{common_steps}
+use Rattle.std.proofs.Common.{arith, rules, length, [], ◌++◌, ◌∷◌, ◌≡◌}
+use Rattle.std.proofs.Math.Path.{refl, subst}
 use Rattle.chunked_list.specs.Blocks.{Begins}
 use Rattle.chunked_list.proofs.Resized.{blocks_grown, long_grown, others_grown}
 use Rattle.chunked_list.proofs.Summed.{long}

@@ -1,6 +1,5 @@
-use Rattle.std.proofs.Common.{arith, rules, length, take, [], ◌++◌, ◌-◌, ◌∷◌, ◌≡◌}
-use Rattle.std.proofs.Math.Path.{ap, subst, sym, ◌∙◌}
-use Rattle.std.proofs.lemmas.Grind.{common_steps}
+use Rattle.std.proofs.Common.{rules, [], ◌++◌, ◌∷◌, ◌≡◌}
+use Rattle.std.proofs.Math.Path.{subst}
 use Rattle.chunked_list.specs.Blocks.{Begins}
 use Rattle.chunked_list.proofs.Resized.{blocks_grown_by_block, long_grown, others_grown, same_base_pushed}
 use Rattle.chunked_list.proofs.Summed.{long}

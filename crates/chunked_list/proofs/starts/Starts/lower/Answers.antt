@@ -1,4 +1,4 @@
-use Rattle.std.proofs.Common.{arith, drop, length, map, take, ◌++◌, ◌+◌, ◌-◌, ◌/◌, ◌∷◌, ◌<◌, ◌≡◌, ◌≤◌}
+use Rattle.std.proofs.Common.{arith, drop, length, map, take, ◌++◌, ◌+◌, ◌-◌, ◌/◌, ◌∷◌, ◌≡◌}
 use Rattle.std.proofs.Math.ListN.{get_or}
 use Rattle.std.proofs.Math.Path.{ap, subst, ◌∙◌}
 use Rattle.std.proofs.lemmas.List.{with_items_is}
@@ -21,7 +21,7 @@ lower_each-requires-clause-some c =
     let all : c.len.result ≡ length ws = (let len = c.len.ensures in let ok = c.self.inside.within.ok in omega arith) in
     let ends = subst (λ n. IsEndOfBlock c.args.chunk n c.end_of_block-end.result) all c.end_of_block-end.ensures in
     λ k up below. let some = within_some bs ws c.args.self.now c.self.view_is c.self.invariant c.args.chunk c.end_of_block-end.result ends c.requires.some k (omega arith) below in
-        let same = ap (λ xs. get_or xs k 0) c.deref_mut.ensures.value in omega arith
+    let same = ap (λ xs. get_or xs k 0) c.deref_mut.ensures.value in omega arith
 
 pub lower_each-requires-2-clause-order : goal.lower_each-requires-2-clause-order
 lower_each-requires-2-clause-order c =
@@ -34,7 +34,7 @@ lower_each-requires-2-clause-some c =
     let all : c.len.result ≡ length ws = (let len = c.len.ensures in let ok = c.self.inside.within.ok in omega arith) in
     let ends = subst (λ n. IsEndOfBlock c.args.chunk n c.end_of_block-end.result) all c.end_of_block-end.ensures in
     λ j up below. let some = blocks_some bs ws c.args.self.now c.self.view_is c.self.invariant c.args.chunk c.end_of_block-end.result ends c.requires.some j up (let len = c.len-blocks.ensures in let all = c.self.inside.blocks.ok in omega arith) in
-        let same = ap (λ xs. get_or xs j 0) c.deref_mut-2.ensures.value in omega arith
+    let same = ap (λ xs. get_or xs j 0) c.deref_mut-2.ensures.value in omega arith
 
 pub invariant_of-self : goal.invariant_of-self
 invariant_of-self c =

@@ -1,7 +1,6 @@
-use Rattle.std.proofs.Common.{arith, length, ◌+◌, ◌∷◌, ◌<◌, ◌≡◌, ◌≤◌}
-use Rattle.std.proofs.Math.Path.{ap, sym, ◌∙◌}
+use Rattle.std.proofs.Common.{arith, length, ◌≡◌}
+use Rattle.std.proofs.Math.Path.{ap, ◌∙◌}
 use Rattle.chunked_list.proofs.Counted.{base_below, begin_counting, blocks_counted, count_fits, counted_all, counted_more}
-use Rattle.chunked_list.proofs.Summed.{at, long}
 use Rattle.chunked_list.proofs.starts.Starts.recount.Goals as goal
 
 pub note-requires-clause-inside : goal.note-requires-clause-inside
@@ -22,7 +21,7 @@ loop-chunk-preserved g c =
     let size : c.len-count.result ≡ length chunk.items = (let len = c.len-count.ensures in let ok = chunk.ok in omega arith) in (
       omega arith,
       counted_more (λ chunk. chunk.items) c.args.chunks.now c.loop-chunk.self-inside.blocks.items c.loop-chunk.self-inside.within.items c.note.new.blocks.items c.note.new.within.items c.loop-chunk.chunk c.loop-chunk.count c.len-count.result chunk test
-      (size ∙ ap (λ y. length y.items) c.index-chunks-chunk.is) c.loop-chunk.invariant.1 c.note.ensures,
+          (size ∙ ap (λ y. length y.items) c.index-chunks-chunk.is) c.loop-chunk.invariant.1 c.note.ensures,
     )
 
 pub overflow_add-count : goal.overflow_add-count

@@ -1,7 +1,6 @@
-use Rattle.std.proofs.Common.{arith, rules, length, take, [], ◌++◌, ◌-◌, ◌∷◌, ◌≡◌}
-use Rattle.std.proofs.Math.Path.{ap, refl, subst, sym, ◌∙◌}
+use Rattle.std.proofs.Common.{arith, length, take, ◌-◌, ◌≡◌}
+use Rattle.std.proofs.Math.Path.{ap, refl, subst, ◌∙◌}
 use Rattle.std.proofs.lemmas.List.{length-take-le}
-use Rattle.std.proofs.lemmas.Grind.{common_steps}
 use Rattle.chunked_list.specs.Blocks.{Begins}
 use Rattle.chunked_list.proofs.Resized.{long_shrunk, others_shrunk, same_base_popped}
 use Rattle.chunked_list.proofs.Summed.{long}
