@@ -1,47 +1,26 @@
 -- Numbers that are changed one after another, from a place on.
-use Rattle.std.proofs.Common.{append-nil, arith, drop, length, map, List, [], ◌++◌, ◌+◌, ◌-◌, ◌<◌, ◌≡◌, ◌≤◌, take, ℕ}
-use Rattle.std.proofs.Math.ListN.{drop_of_length-le, get_or, set}
+use Rattle.std.proofs.Common.{arith, length, List, ◌+◌, ◌<◌, ◌≡◌, ◌≤◌, ℕ, ⊎_elim}
+use Rattle.std.proofs.Math.ListN.{get_or, set}
 use Rattle.std.proofs.Math.Path.{ap, refl, sym, ◌∙◌}
-use Rattle.std.proofs.lemmas.List.{get_or-append_right, get_or-drop, length-drop, length-map, length-take-le, set-append_right, take-append-drop, take_all}
-use Rattle.std.proofs.lemmas.List.Edits.{map_over_more}
+use Rattle.std.proofs.lemmas.Bool.{cases_eq}
+use Rattle.std.proofs.lemmas.List.{get_or-set_other, get_or-set_same, length-set}
+use Rattle.chunked_list.specs.Blocks.{AreChanged}
 
 module _ (f : ℕ → ℕ) (from : ℕ) (ns : List ℕ) where
-  -- those from there on, so many of them changed
-  abbrev rest : ℕ → List ℕ
-  rest k = map f (take k (drop from ns)) ++ drop k (drop from ns)
+  pub changed_none : AreChanged f from from ns ns
+  changed_none = record { long = refl; below = λ k up. refl; there = λ k up below. absurd (omega arith); above = λ k up. refl }
 
-  -- all of them, those before place i changed
-  abbrev pub changed : ℕ → List ℕ
-  changed i = take from ns ++ rest (i - from)
-
-  pub changed-none : ns ≡ changed from
-  changed-none = let none : from - from ≡ 0 = omega arith in sym (take-append-drop from ns) ∙ ap (λ k. take from ns ++ rest k) (sym none)
-
-  module _ (i : ℕ) (up : from ≤ i) (inside : i < length ns) where
-    front : length (take from ns) ≡ from
-    front = length-take-le from ns (omega arith)
-
-    pub changed-more : (ms : List ℕ) (m : ℕ) → ms ≡ changed i → m ≡ get_or ms i m → set ms i (f m) ≡ changed (i + 1)
-    changed-more ms m are is =
-        let here : i - from < length (drop from ns) = omega (arith, length-drop from ns) in
-        let there : m ≡ get_or (rest (i - from)) (i - from) m = is ∙ ap (λ xs. get_or xs i m) are ∙ get_or-append_right (take from ns) (rest (i - from)) from i m front up in
-        let next : i - from + 1 ≡ i + 1 - from = omega arith in
-        ap (λ xs. set xs i (f m)) are ∙ set-append_right (take from ns) (rest (i - from)) from i (f m) front up
-        ∙ ap (λ xs. take from ns ++ xs) (map_over_more f (drop from ns) (rest (i - from)) (i - from) m here refl there ∙ ap rest next)
-
-    -- the one at place i isn't changed yet
-    pub unchanged : (ms : List ℕ) (d : ℕ) → ms ≡ changed i → get_or ms i d ≡ get_or (drop from ns) (i - from) d
-    unchanged ms d are =
-        let here : i - from < length (drop from ns) = omega (arith, length-drop from ns) in
-        let k = i - from in
-        let long : length (map f (take k (drop from ns))) ≡ k = length-map (take k (drop from ns)) f ∙ length-take-le k (drop from ns) (omega arith) in
-        let none : k - k ≡ 0 = omega arith in
-        ap (λ xs. get_or xs i d) are ∙ get_or-append_right (take from ns) (rest k) from i d front up
-        ∙ get_or-append_right (map f (take k (drop from ns))) (drop k (drop from ns)) k k d long (omega arith) ∙ get_or-drop k (drop from ns) (k - k) d
-        ∙ ap (λ n. get_or (drop from ns) n d) (let same : k + (k - k) ≡ k = omega arith in same)
-
-  pub changed-all : (i : ℕ) → length ns ≤ i → changed i ≡ take from ns ++ map f (drop from ns)
-  changed-all i past =
-      let none : drop (i - from) (drop from ns) ≡ [] = drop_of_length-le (drop from ns) (omega (arith, length-drop from ns)) in
-      ap (λ xs. take from ns ++ (map f xs ++ drop (i - from) (drop from ns))) (take_all (i - from) (drop from ns) (omega (arith, length-drop from ns)))
-      ∙ ap (λ xs. take from ns ++ (map f (drop from ns) ++ xs)) none ∙ ap (λ xs. take from ns ++ xs) (append-nil (map f (drop from ns)))
+  pub changed_more : (ms : List ℕ) (i : ℕ) → from ≤ i → i < length ns → AreChanged f from i ns ms → AreChanged f from (i + 1) ns (set ms i (f (get_or ms i 0)))
+  changed_more ms i up inside are =
+      let m = f (get_or ms i 0) in
+      let long = are.long in
+      let same : get_or (set ms i m) i 0 ≡ f (get_or ns i 0) = get_or-set_same ms i m 0 (omega arith) ∙ ap f (are.above i (omega arith)) in
+      record {
+        long = length-set ms i m ∙ long;
+        below = λ k below. get_or-set_other ms i k m 0 (λ at. absurd (omega arith)) ∙ are.below k below;
+        there = λ k up' below. ⊎_elim
+            (λ (at : k ≡ i). ap (λ j. get_or (set ms i m) j 0) at ∙ same ∙ ap (λ j. f (get_or ns j 0)) (sym at))
+            (λ (at : k ≡ i → ⊥). get_or-set_other ms i k m 0 at ∙ are.there k up' (omega arith))
+            (cases_eq k i);
+        above = λ k up'. get_or-set_other ms i k m 0 (λ at. absurd (omega arith)) ∙ are.above k (omega arith);
+      }

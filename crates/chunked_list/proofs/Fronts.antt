@@ -1,11 +1,10 @@
 -- How many items stand before each of some lists, when one of them changes.
-use Rattle.std.proofs.Common.{All, arith, drop, insert, length, map, remove, List, [], ◌++◌, ◌+◌, ◌-◌, ◌∷◌, ◌<◌, ◌≡◌, ◌≤◌, suc, take, zero, ℕ}
+use Rattle.std.proofs.Common.{arith, drop, length, map, List, [], ◌++◌, ◌+◌, ◌-◌, ◌∷◌, ◌<◌, ◌≡◌, ◌≤◌, suc, take, zero, ℕ}
 use Rattle.std.proofs.Math.ListN.{get_or, set}
-use Rattle.std.proofs.Math.Path.{ap, refl, sym, ◌∙◌}
+use Rattle.std.proofs.Math.Path.{ap, refl, ◌∙◌}
 use Rattle.std.specs.List.{flat_map}
-use Rattle.std.proofs.lemmas.List.{length-append, length-drop, length-take-le}
+use Rattle.std.proofs.lemmas.List.{length-append}
 use Rattle.chunked_list.specs.Starts.{starts_from}
-use Rattle.chunked_list.proofs.Joined.{before-new}
 
 module _ {X C : Type 0} (f : C → List X) where
   pub length-starts : (n : ℕ) (cs : List C) → length (starts_from f n cs) ≡ length cs
@@ -75,32 +74,3 @@ module _ {X C : Type 0} (f : C → List X) where
       let same : (n + length (f c)) + 1 ≡ n + length (f d) = omega (arith, long, ap (λ y. length (f y)) is) in
       ap (λ ss. n ∷ ss) (starts-fewer (n + length (f c)) cs ∙ ap (λ m. map (λ s. s - 1) (starts_from f m cs)) same)
   starts-lowered n (d ∷ cs) (suc i) b c inside is long = ap (λ ss. n ∷ ss) (starts-lowered (n + length (f d)) cs i b c (omega arith) is long)
-
-  pub starts-removed : (n : ℕ) (cs : List C) (i : ℕ) (c : C) → i < length cs → c ≡ get_or cs i c → f c ≡ [] → starts_from f n (remove cs i) ≡ remove (starts_from f n cs) i
-  starts-removed n [] i c inside is none = absurd (omega arith)
-  starts-removed n (d ∷ cs) zero c inside is none =
-      let same : n ≡ n + length (f d) = omega (arith, ap length none, ap (λ y. length (f y)) is) in
-      ap (λ m. starts_from f m cs) same
-  starts-removed n (d ∷ cs) (suc i) c inside is none = ap (λ ss. n ∷ ss) (starts-removed (n + length (f d)) cs i c (omega arith) is none)
-
-  -- one of them in two
-  pub starts-parted : (n : ℕ) (cs : List C) (i s : ℕ) (b c u : C) → i < length cs → b ≡ get_or cs i b → length (f b) ≡ length (f c) + length (f u) → s ≡ get_or (starts_from f n cs) i 0
-      → starts_from f n (set (insert cs (suc i) u) i c) ≡ insert (starts_from f n cs) (suc i) (s + length (f c))
-  starts-parted n [] i s b c u inside is parted start = absurd (omega arith)
-  starts-parted n (d ∷ cs) zero s b c u inside is parted start =
-      let same : (n + length (f c)) + length (f u) ≡ n + length (f d) = omega (arith, parted, ap (λ y. length (f y)) is) in
-      ap (λ m. n ∷ (n + length (f c)) ∷ starts_from f m cs) same ∙ ap (λ m. n ∷ (m + length (f c)) ∷ starts_from f (n + length (f d)) cs) (sym start)
-  starts-parted n (d ∷ cs) (suc i) s b c u inside is parted start = ap (λ ss. n ∷ ss) (starts-parted (n + length (f d)) cs i s b c u (omega arith) is parted start)
-
-  -- the items in the middle go over to a new list behind
-  pub starts-split : (cs new : List C) (ss : List ℕ) (i half : ℕ) (b d c u : C) → ss ≡ starts_from f 0 cs → i < length cs → new ≡ insert cs (i + 1) u → b ≡ get_or cs i b → d ≡ get_or new i d
-      → f c ≡ take half (f d) → f u ≡ drop half (f b) → half ≤ length (f b) → insert ss (i + 1) (get_or ss i 0 + half) ≡ starts_from f 0 (set new i c)
-  starts-split cs new ss i half b d c u starts inside put is found lower upper most =
-      let next : i + 1 ≡ suc i = omega arith in
-      let same = before-new f cs new i b d u inside put is found in
-      let front : length (f c) ≡ half = ap length (lower ∙ ap (λ y. take half (f y)) same) ∙ length-take-le half (f b) most in
-      let parted : length (f b) ≡ length (f c) + length (f u) = omega (arith, front, ap length upper, length-drop half (f b), most) in
-      let whole = starts-parted 0 cs i (get_or (starts_from f 0 cs) i 0) b c u inside is parted refl in
-      ap (λ xs. insert xs (i + 1) (get_or xs i 0 + half)) starts ∙ ap (λ m. insert (starts_from f 0 cs) (i + 1) (get_or (starts_from f 0 cs) i 0 + m)) (sym front)
-      ∙ ap (λ m. insert (starts_from f 0 cs) m (get_or (starts_from f 0 cs) i 0 + length (f c))) next ∙ sym whole
-      ∙ ap (λ xs. starts_from f 0 (set xs i c)) (ap (λ m. insert cs m u) (sym next) ∙ sym put)

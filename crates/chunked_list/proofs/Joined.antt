@@ -4,10 +4,11 @@ use Rattle.std.proofs.Math.ListN.{get_or, set}
 use Rattle.std.proofs.Math.Nat.{not-suc-le-zero}
 use Rattle.std.proofs.Math.Path.{ap, refl, sym, subst, ◌∙◌}
 use Rattle.std.specs.List.{flat_map}
-use Rattle.std.proofs.lemmas.List.{append_assoc, length-append, drop_more, get_or_default, set-append_left, set-append_right, set_split, take-append-drop}
+use Rattle.std.proofs.lemmas.List.{append_assoc, drop_more, get_or_default, length-take-le, set-append_left, set-append_right, set_split, take-append-drop, take-append-le, take-set, take-take}
 use Rattle.std.proofs.lemmas.List.Concat.{flat_map-append, get_or-flat_map}
 use Rattle.std.proofs.lemmas.List.Edits.{get_or-insert_below, insert-append_left, insert-append_right, remove-append_left, remove-append_right}
 use Rattle.chunked_list.specs.Starts.{ItemsEnd}
+use Rattle.chunked_list.proofs.Kept.{take-without}
 
 -- a place in one of them, and how far in
 abbrev IsIn : {X C : Type 0} → (C → List X) → List C → ℕ → ℕ → ℕ → C → Type 0
@@ -113,3 +114,17 @@ pub same-dropped : {X C : Type 0} (f : C → List X) (cs : List C) (i : ℕ) (c 
 same-dropped f cs i c inside is none =
     flat_map-append f (take i cs) (drop (suc i) cs)
     ∙ sym (parts f cs i c inside is ∙ ap (λ xs. flat_map f (take i cs) ++ (xs ++ flat_map f (drop (suc i) cs))) none)
+
+-- ---- what stands before the lists that change is as it was
+
+pub alike_dropped : {C : Type 0} (cs new : List C) (i : ℕ) → new ≡ remove cs i → take i new ≡ take i cs
+alike_dropped cs new i dropped = ap (take i) dropped ∙ take-without cs i
+
+pub alike_parted : {C : Type 0} (cs new : List C) (i : ℕ) (c u : C) → i < length cs → new ≡ insert cs (i + 1) u → take i (set new i c) ≡ take i cs
+alike_parted cs new i c u inside put =
+    let front : length (take (i + 1) cs) ≡ i + 1 = length-take-le (i + 1) cs (omega arith) in
+    take-set new i c ∙ ap (take i) put ∙ take-append-le i (take (i + 1) cs) (u ∷ drop (i + 1) cs) (omega arith) ∙ take-take i (i + 1) cs (omega arith)
+
+-- a first list without items
+pub same_begun : {X C : Type 0} (f : C → List X) (cs new : List C) (u : C) → new ≡ insert cs 0 u → f u ≡ [] → flat_map f new ≡ flat_map f cs
+same_begun f cs new u put none = ap (flat_map f) put ∙ ap (λ xs. xs ++ flat_map f cs) none

@@ -1,6 +1,9 @@
 mod Changed
-mod Ends
+mod Counted
+mod FirstItems
 mod Fronts
 mod Joined
 mod Kept
+mod Resized
 mod Searched
+mod Summed

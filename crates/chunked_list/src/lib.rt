@@ -4,6 +4,7 @@
 #![tactic(auto)]
 
 mod chunks;
+mod ends;
 mod list;
 mod searching;
 mod starts;

@@ -8,6 +8,7 @@ ghost use Rattle.chunked_list.specs.Starts.{starts_from};
 
 use crate::chunks::{item, put_in, put_over, take_out};
 use crate::searching::{Search, passes};
+use crate::starts::Starts;
 use std::alloc::{AllocError as OutOfMemory, Global};
 use std::marker::Model;
 
@@ -17,7 +18,7 @@ pub struct ChunkedList<T> {
     alloc: Global,
     chunks: Vec<Vec<T>>,
     /// How many items stand before each chunk.
-    starts: Vec<usize>,
+    starts: Starts,
     len: usize,
     /// The chunk that changed last: places are looked for there first. Only speed rests on it.
     near: usize,
@@ -31,7 +32,7 @@ impl<T> Model for ChunkedList<T> {
     ghost view = { λ l. flat_map (λ c. c.items) l.chunks.items };
 
     ghost invariant = { λ l. (length (flat_map (λ c. c.items) l.chunks.items) ≡ l.len)
-        × (l.starts.items ≡ starts_from (λ c. c.items) 0 l.chunks.items) };
+        × (l.starts ≡ starts_from (λ c. c.items) 0 l.chunks.items) };
 }
 
 impl<T: Copy> ChunkedList<T> {
@@ -42,7 +43,7 @@ impl<T: Copy> ChunkedList<T> {
         ChunkedList {
             alloc,
             chunks: Vec::new(alloc),
-            starts: Vec::new(alloc),
+            starts: Starts::new(alloc),
             len: 0,
             near: 0,
             changed: 0,
@@ -144,12 +145,7 @@ impl<T: Copy> ChunkedList<T> {
             → told ≡ p x) → IsPartitionedBy p self.now
             → IsPartitionPoint (λ x. p x ≡ true) (λ x. p x ≡ false) self.now result }
     {
-        let search = Search {
-            chunks: &self.chunks,
-            starts: &self.starts,
-            len: self.len,
-            near: self.near,
-        };
+        let search = Search::new(&self.chunks, &self.starts, self.len, self.near);
         search.near(near).point(near, &test)
     }
 

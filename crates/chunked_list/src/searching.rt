@@ -6,8 +6,9 @@ ghost use Rattle.std.specs.Fn.{FnReturnsAt};
 ghost use Rattle.chunked_list.specs.Parted.{IsParted};
 ghost use Rattle.chunked_list.specs.Starts.{starts_from};
 
-use crate::chunks::item;
-use crate::starts::end_of;
+use crate::chunks::{item_from, start_near};
+use crate::ends::end_of;
+use crate::starts::Starts;
 use std::marker::Model;
 
 /// How many steps from a place are tried before all items are searched.
@@ -16,12 +17,14 @@ const STEPS: usize = 4;
 /// The items of a list in chunks, and the chunk in which they are looked for first.
 #[derive(Drop)]
 pub(crate) struct Search<'a, T> {
-    pub(crate) chunks: &'a [Vec<T>],
+    chunks: &'a [Vec<T>],
     /// How many items stand before each chunk.
-    pub(crate) starts: &'a [usize],
-    pub(crate) len: usize,
-    /// Only speed rests on it.
-    pub(crate) near: usize,
+    starts: &'a Starts,
+    len: usize,
+    /// The chunk looked at first. Only speed rests on it.
+    near: usize,
+    /// How many items stand before that chunk.
+    start: usize,
 }
 
 impl<'a, T> Model for Search<'a, T> {
@@ -30,20 +33,37 @@ impl<'a, T> Model for Search<'a, T> {
     ghost view = { λ s. flat_map (λ c. c.items) s.chunks.now };
 
     ghost invariant = { λ s. (length (flat_map (λ c. c.items) s.chunks.now) ≡ s.len)
-        × (s.starts.now ≡ starts_from (λ c. c.items) 0 s.chunks.now) };
+        × (s.starts.now ≡ starts_from (λ c. c.items) 0 s.chunks.now)
+        × (s.near < length s.chunks.now → s.start ≡ slice_index_or s.starts.now s.near 0) };
 }
 
 impl<'a, T: Copy> Search<'a, T> {
+    /// So many items, looked for first in the chunk `near`.
+    pub(crate) fn new(
+        chunks: &'a [Vec<T>],
+        starts: &'a Starts,
+        len: usize,
+        near: usize,
+    ) -> Search<'a, T>
+        requires len { length (flat_map (λ c. c.items) chunks.now) ≡ len }
+        requires starts { starts.now ≡ starts_from (λ c. c.items) 0 chunks.now }
+        ensures { result ≡ flat_map (λ c. c.items) chunks.now }
+    {
+        let start = start_near(chunks, starts, near);
+        Search {
+            chunks,
+            starts,
+            len,
+            near,
+            start,
+        }
+    }
+
     /// The same items, looked for first in a chunk.
     fn beside(&self, near: usize) -> Search<'a, T>
         ensures { result ≡ self.now }
     {
-        Search {
-            chunks: self.chunks,
-            starts: self.starts,
-            len: self.len,
-            near,
-        }
+        Search::new(self.chunks, self.starts, self.len, near)
     }
 
     /// The same items, looked for first in the chunk where so many end.
@@ -65,7 +85,7 @@ impl<'a, T: Copy> Search<'a, T> {
     {
         let inside = place < self.len;
         prove!(inside);
-        item(self.chunks, self.starts, self.near, place)
+        item_from(self.chunks, self.starts, self.near, self.start, place)
     }
 
     /// Where the items that pass end, looked for near a place first.
@@ -187,7 +207,7 @@ impl<'a, T: Copy> Search<'a, T> {
             return self.len;
         }
         let inside = point_in(&self.chunks[self.near], test);
-        self.starts[self.near].saturating_add(inside).min(self.len)
+        self.start.saturating_add(inside).min(self.len)
     }
 
     /// Whether the item at a place passes.

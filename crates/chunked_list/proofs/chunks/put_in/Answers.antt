@@ -1,17 +1,19 @@
 use Rattle.std.proofs.Common.{arith, ap, drop, length, map, insert, suc, take, ◌+◌, ◌++◌, ◌<◌, ◌≡◌, ◌≤◌, ◌^◌}
-use Rattle.std.specs.List.{flat_map}
 use Rattle.std.proofs.Math.Path.{subst, sym, ◌∙◌}
 use Rattle.std.proofs.lemmas.List.Edits.{length-insert}
 use Rattle.chunked_list.specs.Starts.{starts_from}
-use Rattle.chunked_list.proofs.Ends.{starts_fit}
+use Rattle.chunked_list.proofs.FirstItems.{long, starts_fit}
 use Rattle.chunked_list.proofs.Fronts.{starts-raised, starts-set}
 use Rattle.chunked_list.proofs.Joined.{insert-set, same-set}
 use Rattle.chunked_list.proofs.chunks.put_in.Goals as goal
 
-pub raise-requires : goal.raise-requires
-raise-requires g c =
+pub raise-requires-clause-inside : goal.raise-requires-clause-inside
+raise-requires-clause-inside g c = let size = long (λ chunk. chunk.items) c.end_with_room.new.chunks.items c.end_with_room.new.starts c.in_ok-end.ensures.starts in let inside = c.in_ok-end.ensures.end.inside in omega arith
+
+pub raise-requires-clause-fits : goal.raise-requires-clause-fits
+raise-requires-clause-fits g c =
     let cs = c.end_with_room.new.chunks.items in
-    starts_fit (λ chunk. chunk.items) cs c.end_with_room.new.starts.items c.in_ok-end.ensures.starts
+    starts_fit (λ chunk. chunk.items) cs c.end_with_room.new.starts c.in_ok-end.ensures.starts
     (subst (λ xs. length xs + 1 < 2 ^ 64) (sym c.in_ok-end.ensures.same) c.requires.fits)
 
 pub returns-in-Ok-clause-starts : goal.returns-in-Ok-clause-starts
