@@ -17,7 +17,7 @@ use Rattle.osm_geom.specs.Edge.{direction_of}
 use Rattle.osm_geom.specs.Point.{point_cmp}
 use Rattle.osm_geom.proofs.GeometryKit.{neither_less, point_total}
 use Rattle.osm_rings.specs.declared.departures.Departure.{Departure}
-use Rattle.osm_rings.specs.Departures.{AreClockwiseRound, AreFrom, AreRising, AreDepartures, IsEndAt, IsFirstAt, IsDepartureOf, TellStarts, start_at}
+use Rattle.osm_rings.specs.Departures.{AreClockwiseRound, AreDepartures, AreFrom, AreListed, AreRising, IsDepartureOf, IsEndAt, IsFirstAt, TellStarts, start_at}
 use Rattle.lists.proofs.ListsKit.{clash, not-false-out, not-true-out}
 
 -- what an edge leaves
@@ -174,13 +174,6 @@ departure-of es w inside is = record {
   along = sym (get_or-map direction_of es w.place w.edge.now east inside ∙ ap direction_of (sym is));
 }
 
--- one list or the other has the departure of each of these edges
-pub record AreListed (es : List Edge) (n : ℕ) (ws vs : List Departure) : Type 0 where
-  pub sized : length ws + length vs ≡ n
-  pub whole : (k : ℕ) → k < n → (w : Departure) × (Contains ws w ⊎ Contains vs w) × (w.place ≡ k)
-  pub right : All (IsDepartureOf es) ws
-  pub others : All (IsDepartureOf es) vs
-
 pushed : (ws : List Departure) (w : Departure) → Contains (ws ++ w ∷ []) w
 pushed ws w = Contains-append_right ws (w ∷ []) w (0, omega arith, refl)
 
@@ -214,6 +207,18 @@ module _ (es : List Edge) (n : ℕ) (ws vs : List Departure) (w : Departure) (l 
     right = l.right;
     others = All-push (IsDepartureOf es) vs w l.others right;
   }
+
+-- joined, they are one list
+pub listed-joined : (es : List Edge) (n : ℕ) (ws vs : List Departure) → AreListed es n ws vs → AreListed es n (ws ++ vs) []
+listed-joined es n ws vs l = record {
+  sized = let joined = length-append ws vs in let sized = l.sized in omega arith;
+  whole = λ k h.
+      let found = l.whole k h in
+      let w = found.0 in
+      (w, inl (⊎_elim (Contains-append_left ws vs w) (Contains-append_right ws vs w) found.1), found.2);
+  right = All-append (IsDepartureOf es) ws vs l.right l.others;
+  others = λ k d h. absurd (omega arith);
+}
 
 -- joined and sorted, they are the departures of all edges
 pub listed-sorted : (es : List Edge) (ws vs us : List Departure) (n : ℕ) → n ≡ length es → AreListed es n ws vs → IsPermutation (ws ++ vs) us → AreRising us → AreClockwiseRound us → AreDepartures es us
