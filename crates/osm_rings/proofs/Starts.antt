@@ -208,18 +208,6 @@ module _ (es : List Edge) (n : ℕ) (ws vs : List Departure) (w : Departure) (l 
     others = All-push (IsDepartureOf es) vs w l.others right;
   }
 
--- joined, they are one list
-pub listed-joined : (es : List Edge) (n : ℕ) (ws vs : List Departure) → AreListed es n ws vs → AreListed es n (ws ++ vs) []
-listed-joined es n ws vs l = record {
-  sized = let joined = length-append ws vs in let sized = l.sized in omega arith;
-  whole = λ k h.
-      let found = l.whole k h in
-      let w = found.0 in
-      (w, inl (⊎_elim (Contains-append_left ws vs w) (Contains-append_right ws vs w) found.1), found.2);
-  right = All-append (IsDepartureOf es) ws vs l.right l.others;
-  others = λ k d h. absurd (omega arith);
-}
-
 -- joined and sorted, they are the departures of all edges
 pub listed-sorted : (es : List Edge) (ws vs us : List Departure) (n : ℕ) → n ≡ length es → AreListed es n ws vs → IsPermutation (ws ++ vs) us → AreRising us → AreClockwiseRound us → AreDepartures es us
 listed-sorted es ws vs us n whole l moved rising round = record {

@@ -13,6 +13,7 @@ use osm_geom::{Dir, Edge, Point, clockwise, compare_points, order_points, sort_k
 use smallvec::SmallVec;
 use std::alloc::{AllocError as OutOfMemory, Global};
 use std::cmp::Ordering;
+use std::mem;
 
 /// The direction from which the departures round a point are ordered, clockwise.
 pub const EAST: Dir = Dir { dx: 1, dy: 0 };
@@ -199,19 +200,18 @@ fn runs_up(edge: &Edge) -> bool {
     order_points(&edge.from, &edge.to).is_lt()
 }
 
-/// Lists the departures of edges: first those of edges that run up.
-///
-/// They are in order if the edges are in order of their lower ends. So half is left to be sorted.
+/// Lists the departures of edges: those of edges that run up, and the others.
 fn list_departures<'a>(
-    alloc: Global,
     up: &mut Vec<Departure<'a>>,
+    down: &mut Vec<Departure<'a>>,
     edges: &'a [Edge],
 ) -> Result<(), OutOfMemory>
-    requires { up.old.items ≡ [] }
-    ensures { OnOk result (AreListed edges.now (length edges.now) up.new.items []) }
+    requires up { up.old.items ≡ [] }
+    requires down { down.old.items ≡ [] }
+    ensures { OnOk result (AreListed edges.now (length edges.now) up.new.items down.new.items) }
 {
     up.reserve(edges.len())?;
-    let mut down = Vec::with_capacity(alloc, edges.len())?;
+    down.reserve(edges.len())?;
     for (place, edge) in edges.iter().enumerate() {
         let departure = departure_of(edge, place);
         if runs_up(edge) {
@@ -220,7 +220,6 @@ fn list_departures<'a>(
             down.push(departure)?;
         }
     }
-    up.append(&mut down)?;
     Ok(())
 }
 
@@ -228,9 +227,14 @@ fn list_departures<'a>(
 pub fn departures<'a>(alloc: Global, edges: &'a [Edge]) -> Result<Vec<Departure<'a>>, OutOfMemory>
     ensures { IfOk result (λ v. AreDepartures edges.now v.items) }
 {
-    let mut listed = Vec::new(alloc);
-    list_departures(alloc, &mut listed, edges)?;
-    in_order(alloc, listed)
+    // The departures of edges that run up are in order if the edges are in order of their lower ends.
+    // So half is left to be sorted.
+    let mut up = Vec::new(alloc);
+    let mut down = Vec::new(alloc);
+    list_departures(&mut up, &mut down, edges)?;
+    up.append(&mut down)?;
+    mem::drop(down);
+    in_order(alloc, up)
 }
 
 /// Whether a departure leaves an earlier point than p.

@@ -1,13 +1,13 @@
--- One more departure; then those of edges that run up and the others are joined.
-use Rattle.std.proofs.Common.{[], ◌++◌, ◌≡◌, ◌<◌, length, get_or, subst, sym, arith, ℕ}
+-- One more departure.
+use Rattle.std.proofs.Common.{◌≡◌, ◌<◌, length, get_or, subst, sym, arith, ℕ}
 use Rattle.osm_geom.specs.declared.edge.Edge.{Edge}
 use Rattle.osm_rings.specs.Departures.{AreListed, IsDepartureOf}
-use Rattle.osm_rings.proofs.Starts.{departure-of, listed-joined, listed-more, listed-none, listed-other}
+use Rattle.osm_rings.proofs.Starts.{departure-of, listed-more, listed-none, listed-other}
 use Rattle.osm_rings.proofs.departures.list_departures.Goals as goal
 use Rattle.osm_rings.proofs.departures.list_departures.Goals.{then-runs_up+in_ok-push, else-runs_up+in_ok-push-2}
 
 pub loop-place-init : goal.loop-place-init
-loop-place-init c = rw (c.in_ok-reserve.ensures.items, c.requires, c.in_ok-down.ensures.items) (listed-none c.args.edges.now)
+loop-place-init c = rw (c.in_ok-reserve.ensures.items, c.requires.up, c.in_ok-reserve-2.ensures.items, c.requires.down) (listed-none c.args.edges.now)
 
 pub loop-place-preserved : goal.loop-place-preserved
 loop-place-preserved c =
@@ -26,6 +26,5 @@ loop-place-preserved c =
 
 pub returns : goal.returns
 returns c =
-    let es = c.args.edges.now in
-    let whole : c.loop-place.place ≡ length es = omega arith in
-    rw c.in_ok-append.ensures.items (subst (λ (n : ℕ). AreListed es n (c.loop-place.up.items ++ c.loop-place.down.items) []) whole (listed-joined es c.loop-place.place c.loop-place.up.items c.loop-place.down.items c.loop-place.invariant))
+    let whole : c.loop-place.place ≡ length c.args.edges.now = omega arith in
+    subst (λ (n : ℕ). AreListed c.args.edges.now n c.loop-place.up.items c.loop-place.down.items) whole c.loop-place.invariant
