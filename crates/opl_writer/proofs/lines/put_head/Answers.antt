@@ -3,7 +3,6 @@ use Rattle.std.proofs.Common.{◌≡◌, ◌∙◌, ◌++◌, ap, rules, w64, Fi
 use Rattle.std.specs.Fmt.{signed_decimal}
 use Rattle.std.proofs.lemmas.Int.{to_z-of_z}
 use Rattle.std.proofs.lemmas.Result.{on_ok_weaker}
-use Rattle.osm_notation.proofs.KeptTexts.{kept_added, kept_further, kept_to_the_last}
 use Rattle.opl_writer.proofs.ThreeParts.{three_added}
 use Rattle.opl_writer.proofs.lines.put_head.Goals as goal
 
@@ -15,12 +14,3 @@ returns-clause-text c =
     on_ok_weaker c.put_tags.result
     (λ tags. three_added c.args.text.now.items letter c.put_number.new.text.items c.put_tags.new.text.items _ _ _ c.in_ok-push.ensures.items number tags)
     c.put_tags.ensures.text
-
-pub returns-clause-kept : goal.returns-clause-kept
-returns-clause-kept c =
-    let text = c.args.text.now.items in
-    let letter = c.push.new.self.items in
-    let number = c.put_number.new.text.items in
-    kept_to_the_last c.put_tags.result text number c.put_tags.new.text.items
-    (kept_further text letter _ number (kept_added text _ letter c.in_ok-push.ensures.items) c.in_ok-put_number.ensures.text)
-    c.put_tags.ensures.kept
