@@ -61,7 +61,7 @@ pub record AreDepartures (es : List geom.Edge) (ws : List Departure) : Type 0 wh
   pub whole : (k : ℕ) → k < length es → (w : Departure) × Contains ws w × (w.place ≡ k)
 
 -- one list or the other has the departure of each of the first n edges
-pub record AreListed (es : List geom.Edge) (n : ℕ) (ws vs : List Departure) : Type 0 where
+pub record AreInTwoLists (es : List geom.Edge) (n : ℕ) (ws vs : List Departure) : Type 0 where
   pub sized : length ws + length vs ≡ n
   pub whole : (k : ℕ) → k < n → (w : Departure) × (Contains ws w ⊎ Contains vs w) × (w.place ≡ k)
   pub right : All (IsDepartureOf es) ws

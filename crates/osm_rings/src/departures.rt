@@ -6,7 +6,7 @@ ghost use Rattle.std.specs.Ordering.{is_lt};
 ghost use Rattle.osm_geom.specs.declared.edge.Edge.{Edge};
 ghost use Rattle.osm_geom.specs.Point.{point_cmp};
 ghost use Rattle.osm_rings.specs.Apart.{LeaveApart};
-ghost use Rattle.osm_rings.specs.Departures.{AreClockwiseRound, AreDepartures, AreFrom, AreListed, AreRising, IsEndAt, IsFirstAt, TellStarts, stands_before};
+ghost use Rattle.osm_rings.specs.Departures.{AreClockwiseRound, AreDepartures, AreFrom, AreInTwoLists, AreRising, IsEndAt, IsFirstAt, TellStarts, stands_before};
 
 use crate::keys::guess_first;
 use osm_geom::{Dir, Edge, Point, clockwise, compare_points, order_points, sort_key};
@@ -208,7 +208,7 @@ fn list_departures<'a>(
 ) -> Result<(), OutOfMemory>
     requires up { up.old.items ≡ [] }
     requires down { down.old.items ≡ [] }
-    ensures { OnOk result (AreListed edges.now (length edges.now) up.new.items down.new.items) }
+    ensures { OnOk result (AreInTwoLists edges.now (length edges.now) up.new.items down.new.items) }
 {
     up.reserve(edges.len())?;
     down.reserve(edges.len())?;

@@ -1,7 +1,7 @@
 -- One more departure.
 use Rattle.std.proofs.Common.{◌≡◌, ◌<◌, length, get_or, subst, sym, arith, ℕ}
 use Rattle.osm_geom.specs.declared.edge.Edge.{Edge}
-use Rattle.osm_rings.specs.Departures.{AreListed, IsDepartureOf}
+use Rattle.osm_rings.specs.Departures.{AreInTwoLists, IsDepartureOf}
 use Rattle.osm_rings.proofs.Starts.{departure-of, listed-more, listed-none, listed-other}
 use Rattle.osm_rings.proofs.departures.list_departures.Goals as goal
 use Rattle.osm_rings.proofs.departures.list_departures.Goals.{then-runs_up+in_ok-push, else-runs_up+in_ok-push-2}
@@ -27,4 +27,4 @@ loop-place-preserved c =
 pub returns : goal.returns
 returns c =
     let whole : c.loop-place.place ≡ length c.args.edges.now = omega arith in
-    subst (λ (n : ℕ). AreListed c.args.edges.now n c.loop-place.up.items c.loop-place.down.items) whole c.loop-place.invariant
+    subst (λ (n : ℕ). AreInTwoLists c.args.edges.now n c.loop-place.up.items c.loop-place.down.items) whole c.loop-place.invariant
