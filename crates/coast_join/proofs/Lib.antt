@@ -5,6 +5,7 @@ mod Joining
 mod NearPairs
 mod NearestFirst
 pub mod Numbering
+mod OneMoreWay
 mod OneTaken
 mod Rounding
 mod Sorting

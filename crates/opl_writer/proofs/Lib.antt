@@ -8,3 +8,4 @@ mod RowLemmas
 mod SoundLemmas
 mod StringLemmas
 mod TextLemmas
+mod ThreeParts

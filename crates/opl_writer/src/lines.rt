@@ -1,14 +1,26 @@
 //! Lines of objects, each ending with LF.
 
-ghost use Rattle.std.specs.Prelude.{◌≡◌, ◌++◌, OnOk, OnErr};
+ghost use Rattle.std.specs.Prelude.{◌≡◌, ◌++◌, ◌∷◌, [], OnOk, OnErr};
+ghost use Rattle.std.specs.Fmt.{signed_decimal};
 ghost use Rattle.osm_notation.specs.Kept.{KeepsFront};
-ghost use Rattle.opl_writer.specs.Written.{ended, node_line, relation_line, way_line};
+ghost use Rattle.opl_writer.specs.Written.{ended, node_line, relation_line, tags_field, way_line};
 
 use crate::fields::{put_members, put_place, put_refs, put_tags};
 use osm_elements::{Members, Refs, Tags};
 use osm_lattice::Loc;
 use osm_notation::put_number;
 use std::alloc::AllocError as OutOfMemory;
+
+/// Adds what begins each line: the letter of the object, its id, and ` T` and its tags.
+fn put_head(text: &mut Vec<u8>, letter: u8, id: i64, tags: &Tags) -> Result<(), OutOfMemory>
+    ensures text { OnOk result (text.new.items
+        ≡ text.old.items ++ ((letter ∷ []) ++ signed_decimal id ++ tags_field tags.now)) }
+    ensures kept { OnErr result (KeepsFront text.old.items text.new.items) }
+{
+    text.push(letter)?;
+    put_number(text, id)?;
+    put_tags(text, tags)
+}
 
 /// Adds the line of a node: `n` and its id, ` T` and its tags, ` x`, the longitude, ` y` and the latitude, and LF.
 ///
@@ -24,9 +36,7 @@ pub fn put_node(
         ≡ text.old.items ++ ended (node_line id tags.now place)) }
     ensures kept { OnErr result (KeepsFront text.old.items text.new.items) }
 {
-    text.push(b'n')?;
-    put_number(text, id)?;
-    put_tags(text, tags)?;
+    put_head(text, b'n', id, tags)?;
     put_place(text, place)?;
     text.push(b'\n')?;
     Ok(())
@@ -41,9 +51,7 @@ pub fn put_way(text: &mut Vec<u8>, id: i64, tags: &Tags, refs: &Refs) -> Result<
         ≡ text.old.items ++ ended (way_line id tags.now refs.now)) }
     ensures kept { OnErr result (KeepsFront text.old.items text.new.items) }
 {
-    text.push(b'w')?;
-    put_number(text, id)?;
-    put_tags(text, tags)?;
+    put_head(text, b'w', id, tags)?;
     put_refs(text, refs)?;
     text.push(b'\n')?;
     Ok(())
@@ -63,9 +71,7 @@ pub fn put_relation(
         ≡ text.old.items ++ ended (relation_line id tags.now members.now)) }
     ensures kept { OnErr result (KeepsFront text.old.items text.new.items) }
 {
-    text.push(b'r')?;
-    put_number(text, id)?;
-    put_tags(text, tags)?;
+    put_head(text, b'r', id, tags)?;
     put_members(text, members)?;
     text.push(b'\n')?;
     Ok(())

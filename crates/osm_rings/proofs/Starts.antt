@@ -17,7 +17,7 @@ use Rattle.osm_geom.specs.Edge.{direction_of}
 use Rattle.osm_geom.specs.Point.{point_cmp}
 use Rattle.osm_geom.proofs.GeometryKit.{neither_less, point_total}
 use Rattle.osm_rings.specs.declared.departures.Departure.{Departure}
-use Rattle.osm_rings.specs.Departures.{AreClockwiseRound, AreFrom, AreRising, AreDepartures, IsEndAt, IsFirstAt, IsDepartureOf, TellStarts, start_at}
+use Rattle.osm_rings.specs.Departures.{AreClockwiseRound, AreDepartures, AreFrom, AreInTwoLists, AreRising, IsDepartureOf, IsEndAt, IsFirstAt, TellStarts, start_at}
 use Rattle.lists.proofs.ListsKit.{clash, not-false-out, not-true-out}
 
 -- what an edge leaves
@@ -174,17 +174,10 @@ departure-of es w inside is = record {
   along = sym (get_or-map direction_of es w.place w.edge.now east inside ∙ ap direction_of (sym is));
 }
 
--- one list or the other has the departure of each of these edges
-pub record AreListed (es : List Edge) (n : ℕ) (ws vs : List Departure) : Type 0 where
-  pub sized : length ws + length vs ≡ n
-  pub whole : (k : ℕ) → k < n → (w : Departure) × (Contains ws w ⊎ Contains vs w) × (w.place ≡ k)
-  pub right : All (IsDepartureOf es) ws
-  pub others : All (IsDepartureOf es) vs
-
 pushed : (ws : List Departure) (w : Departure) → Contains (ws ++ w ∷ []) w
 pushed ws w = Contains-append_right ws (w ∷ []) w (0, omega arith, refl)
 
-pub listed-none : (es : List Edge) → AreListed es 0 [] []
+pub listed-none : (es : List Edge) → AreInTwoLists es 0 [] []
 listed-none es = record {
   sized = refl;
   whole = λ k h. absurd (omega arith);
@@ -192,8 +185,8 @@ listed-none es = record {
   others = All-nil (IsDepartureOf es);
 }
 
-module _ (es : List Edge) (n : ℕ) (ws vs : List Departure) (w : Departure) (l : AreListed es n ws vs) (is : w.place ≡ n) (right : IsDepartureOf es w) where
-  pub listed-more : AreListed es (n + 1) (ws ++ w ∷ []) vs
+module _ (es : List Edge) (n : ℕ) (ws vs : List Departure) (w : Departure) (l : AreInTwoLists es n ws vs) (is : w.place ≡ n) (right : IsDepartureOf es w) where
+  pub listed-more : AreInTwoLists es (n + 1) (ws ++ w ∷ []) vs
   listed-more = record {
     sized = let e = length-append ws (w ∷ []) in let sized = l.sized in omega arith;
     whole = λ k h. ⊎_elim
@@ -204,7 +197,7 @@ module _ (es : List Edge) (n : ℕ) (ws vs : List Departure) (w : Departure) (l 
     others = l.others;
   }
 
-  pub listed-other : AreListed es (n + 1) ws (vs ++ w ∷ [])
+  pub listed-other : AreInTwoLists es (n + 1) ws (vs ++ w ∷ [])
   listed-other = record {
     sized = let e = length-append vs (w ∷ []) in let sized = l.sized in omega arith;
     whole = λ k h. ⊎_elim
@@ -216,7 +209,7 @@ module _ (es : List Edge) (n : ℕ) (ws vs : List Departure) (w : Departure) (l 
   }
 
 -- joined and sorted, they are the departures of all edges
-pub listed-sorted : (es : List Edge) (ws vs us : List Departure) (n : ℕ) → n ≡ length es → AreListed es n ws vs → IsPermutation (ws ++ vs) us → AreRising us → AreClockwiseRound us → AreDepartures es us
+pub listed-sorted : (es : List Edge) (ws vs us : List Departure) (n : ℕ) → n ≡ length es → AreInTwoLists es n ws vs → IsPermutation (ws ++ vs) us → AreRising us → AreClockwiseRound us → AreDepartures es us
 listed-sorted es ws vs us n whole l moved rising round = record {
   sized = let joined = length-append ws vs in let sized = l.sized in let same = length_permutation (ws ++ vs) us moved in omega arith;
   rising = rising;

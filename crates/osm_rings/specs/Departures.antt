@@ -1,5 +1,5 @@
 -- The departures of edges in order, and the edges that leave a point. No public contract cites this.
-use Rattle.std.specs.Prelude.{All, Bool, Contains, List, Option, None, Some, false, get_or, length, map, not, slice_index_or, true, ℕ, ◌&&◌, ◌<◌, ◌||◌, ◌≡◌, ◌≢◌, ◌≤◌}
+use Rattle.std.specs.Prelude.{All, Bool, Contains, List, Option, None, Some, false, get_or, length, map, not, slice_index_or, true, ℕ, ◌&&◌, ◌+◌, ◌<◌, ◌||◌, ◌≡◌, ◌≢◌, ◌≤◌, ◌⊎◌}
 use Rattle.std.specs.Ordering.{is_eq, is_lt}
 use Rattle.std.specs.List.Sorted.{IsPartitionPoint}
 use Rattle.plane.specs.Edge.{Edge}
@@ -59,6 +59,13 @@ pub record AreDepartures (es : List geom.Edge) (ws : List Departure) : Type 0 wh
   pub round : AreClockwiseRound ws
   pub right : All (IsDepartureOf es) ws
   pub whole : (k : ℕ) → k < length es → (w : Departure) × Contains ws w × (w.place ≡ k)
+
+-- one list or the other has the departure of each of the first n edges
+pub record AreInTwoLists (es : List geom.Edge) (n : ℕ) (ws vs : List Departure) : Type 0 where
+  pub sized : length ws + length vs ≡ n
+  pub whole : (k : ℕ) → k < n → (w : Departure) × (Contains ws w ⊎ Contains vs w) × (w.place ≡ k)
+  pub right : All (IsDepartureOf es) ws
+  pub others : All (IsDepartureOf es) vs
 
 -- the departures before place i are those that begin before p
 abbrev pub IsFirstAt : List Departure → Point → ℕ → Type 0

@@ -1,12 +1,12 @@
 //! The edges of a list as they leave their points, in order; the numbers of these points; and the edges that leave one.
 //!
 //! The places of departures are searched by sort keys of points, and then tested against the points themselves.
-ghost use Rattle.std.specs.Prelude.{◌≡◌, ◌<◌, ◌≤◌, ◌-◌, ◌++◌, All, IfOk, IsPermutation, List, OnOk, Some, false, length, map, not, slice_index_or, true, unwrap_or};
+ghost use Rattle.std.specs.Prelude.{◌≡◌, ◌<◌, ◌≤◌, ◌-◌, ◌++◌, [], All, IfOk, IsPermutation, List, OnOk, Some, false, length, map, not, slice_index_or, true, unwrap_or};
 ghost use Rattle.std.specs.Ordering.{is_lt};
 ghost use Rattle.osm_geom.specs.declared.edge.Edge.{Edge};
 ghost use Rattle.osm_geom.specs.Point.{point_cmp};
 ghost use Rattle.osm_rings.specs.Apart.{LeaveApart};
-ghost use Rattle.osm_rings.specs.Departures.{AreClockwiseRound, AreDepartures, AreFrom, AreRising, IsEndAt, IsFirstAt, TellStarts, stands_before};
+ghost use Rattle.osm_rings.specs.Departures.{AreClockwiseRound, AreDepartures, AreFrom, AreInTwoLists, AreRising, IsEndAt, IsFirstAt, TellStarts, stands_before};
 
 use crate::keys::guess_first;
 use osm_geom::{Dir, Edge, Point, clockwise, compare_points, order_points, sort_key};
@@ -200,14 +200,18 @@ fn runs_up(edge: &Edge) -> bool {
     order_points(&edge.from, &edge.to).is_lt()
 }
 
-/// The departures of the edges, in order.
-pub fn departures<'a>(alloc: Global, edges: &'a [Edge]) -> Result<Vec<Departure<'a>>, OutOfMemory>
-    ensures { IfOk result (λ v. AreDepartures edges.now v.items) }
+/// Lists the departures of edges: those of edges that run up, and the others.
+fn list_departures<'a>(
+    up: &mut Vec<Departure<'a>>,
+    down: &mut Vec<Departure<'a>>,
+    edges: &'a [Edge],
+) -> Result<(), OutOfMemory>
+    requires up { up.old.items ≡ [] }
+    requires down { down.old.items ≡ [] }
+    ensures { OnOk result (AreInTwoLists edges.now (length edges.now) up.new.items down.new.items) }
 {
-    // The departures of edges that run up are in order if the edges are in order of their lower ends.
-    // So half is left to be sorted.
-    let mut up = Vec::with_capacity(alloc, edges.len())?;
-    let mut down = Vec::with_capacity(alloc, edges.len())?;
+    up.reserve(edges.len())?;
+    down.reserve(edges.len())?;
     for (place, edge) in edges.iter().enumerate() {
         let departure = departure_of(edge, place);
         if runs_up(edge) {
@@ -216,6 +220,18 @@ pub fn departures<'a>(alloc: Global, edges: &'a [Edge]) -> Result<Vec<Departure<
             down.push(departure)?;
         }
     }
+    Ok(())
+}
+
+/// The departures of the edges, in order.
+pub fn departures<'a>(alloc: Global, edges: &'a [Edge]) -> Result<Vec<Departure<'a>>, OutOfMemory>
+    ensures { IfOk result (λ v. AreDepartures edges.now v.items) }
+{
+    // The departures of edges that run up are in order if the edges are in order of their lower ends.
+    // So half is left to be sorted.
+    let mut up = Vec::new(alloc);
+    let mut down = Vec::new(alloc);
+    list_departures(&mut up, &mut down, edges)?;
     up.append(&mut down)?;
     mem::drop(down);
     in_order(alloc, up)

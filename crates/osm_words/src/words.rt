@@ -1,6 +1,6 @@
 //! The words of a command line: which command they name, and what they ask for.
 
-ghost use Rattle.std.specs.Prelude.{◌≡◌, ℕ, List, Ok, map, string_bytes};
+ghost use Rattle.std.specs.Prelude.{◌≡◌, ◌∷◌, [], ℕ, List, Ok, map, string_bytes};
 ghost use Rattle.osm_words.specs.Answers.{AnswersJob, AnswersWords};
 ghost use Rattle.osm_words.specs.Job.{certify, coastline, export, filter, locate, sample};
 ghost use Rattle.osm_words.specs.PlainCertify.{ArePlainCertify, CertifyOption, certify_words, said_certify};
@@ -34,18 +34,28 @@ pub enum Command {
     Unknown,
 }
 
+/// The command of this name; Unknown if there is none.
+fn command_called(name: &str) -> Command
+    ensures { result ≡ command_named (name.now ∷ []) }
+{
+    match name {
+        "export" => Command::Export,
+        "coastline" => Command::Coastline,
+        "sample" => Command::Sample,
+        "coast-filter" => Command::Filter,
+        "certify" => Command::Certify,
+        "locate" => Command::Locate,
+        _ => Command::Unknown,
+    }
+}
+
 /// The command that the first word names; Unknown for any other word and for none.
 pub fn command_of(words: &[String]) -> Command
     ensures { result ≡ command_named (map string_bytes words.now) }
 {
     match words.first() {
-        Some(word) if word.as_str() == "export" => Command::Export,
-        Some(word) if word.as_str() == "coastline" => Command::Coastline,
-        Some(word) if word.as_str() == "sample" => Command::Sample,
-        Some(word) if word.as_str() == "coast-filter" => Command::Filter,
-        Some(word) if word.as_str() == "certify" => Command::Certify,
-        Some(word) if word.as_str() == "locate" => Command::Locate,
-        _ => Command::Unknown,
+        Some(word) => command_called(word.as_str()),
+        None => Command::Unknown,
     }
 }
 

@@ -1,18 +1,18 @@
 //! Direct enclosers, found by one sweep upwards over all edges of the rings.
 //!
 //! The nearest edge left of an inner ring's anchor shows which ring directly encloses that ring.
-ghost use Rattle.std.specs.Prelude.{◌≡◌, ◌<◌, ◌≤◌, All, IfOk, IfSome, List, None, Option, Some, filter, length, slice_index_or, true};
+ghost use Rattle.std.specs.Prelude.{◌≡◌, ◌<◌, ◌≤◌, [], All, IfOk, IfSome, List, None, OnOk, Option, Some, filter, length, slice_index_or, true};
 ghost use Rattle.osm_geom.specs.Span.{lower_end};
 ghost use Rattle.osm_nest.specs.declared.sweep.ring_edge.RingEdge.{RingEdge};
 ghost use Rattle.osm_nest.specs.Anchors.{AreAnchors};
 ghost use Rattle.osm_nest.specs.Enclosers.{IsDirectEncloser};
 ghost use Rattle.osm_nest.specs.RingLists.{AreRings};
-ghost use Rattle.osm_nest.specs.SweptEdges.{IsInnerAnchor, IsTeller, KnownEnclosersAreRight, TellsEncloser, begin_level, is_within};
+ghost use Rattle.osm_nest.specs.SweptEdges.{AreSlopingEdges, IsInnerAnchor, IsTeller, KnownEnclosersAreRight, StartsRise, TellsEncloser, begin_level, is_within};
 
 use crate::outer::lower_end;
 use crate::ring_anchors::Anchors;
 use crate::sweep::ring_edge::RingEdge;
-use crate::sweep::ring_edges::{by_lower_ends, by_upper_ends, rising_edges};
+use crate::sweep::ring_edges::{Top, by_lower_ends, by_upper_ends, rising_edges};
 use crate::sweep::status::{enter_row, leave, left_neighbour};
 use chunked_list::ChunkedList;
 use osm_geom::{Edge, spans_height};
@@ -34,9 +34,49 @@ pub(crate) fn swept_enclosers(
     if inner.is_empty() {
         return Ok(known);
     }
+    sweep_rings(alloc, rings, anchors, &inner, &mut known)?;
+    Ok(known)
+}
+
+/// Settles the direct enclosers of the inner rings with these anchors by a sweep over the edges of all rings.
+fn sweep_rings(
+    alloc: Global,
+    rings: &[Ring],
+    anchors: &Anchors,
+    inner: &[RingEdge],
+    known: &mut Vec<Option<usize>>,
+) -> Result<(), OutOfMemory>
+    requires rings { AreRings rings.now }
+    requires anchors { AreAnchors rings.now anchors.now }
+    requires inner { All (IsInnerAnchor rings.now) inner.now }
+    requires known { KnownEnclosersAreRight rings.now known.old.items }
+    ensures { OnOk result (KnownEnclosersAreRight rings.now known.new.items) }
+{
     let edges = rising_edges(alloc, rings)?;
     let tops = by_upper_ends(alloc, &edges)?;
     let mut status = ChunkedList::new(alloc);
+    sweep(rings, anchors, inner, &edges, &tops, &mut status, known)
+}
+
+/// Settles the direct enclosers of the inner rings, row by row upwards, until one edge doesn't fit or all are settled.
+fn sweep<'a>(
+    rings: &[Ring],
+    anchors: &Anchors,
+    inner: &[RingEdge],
+    edges: &[RingEdge<'a>],
+    tops: &[Top],
+    status: &mut ChunkedList<RingEdge<'a>>,
+    known: &mut Vec<Option<usize>>,
+) -> Result<(), OutOfMemory>
+    requires rings { AreRings rings.now }
+    requires anchors { AreAnchors rings.now anchors.now }
+    requires inner { All (IsInnerAnchor rings.now) inner.now }
+    requires edges { AreSlopingEdges rings.now edges.now }
+    requires rise { StartsRise edges.now }
+    requires status { status.old ≡ [] }
+    requires known { KnownEnclosersAreRight rings.now known.old.items }
+    ensures { OnOk result (KnownEnclosersAreRight rings.now known.new.items) }
+{
     let mut gone = 0;
     let mut settled = 0;
     let mut next = 0;
@@ -44,19 +84,17 @@ pub(crate) fn swept_enclosers(
         let first = edges[next];
         let at = lower_end(first.edge);
         let below = lower_end(edges[next.saturating_sub(1)].edge);
-        gone = leave(&mut status, &edges, &tops, gone, below, at);
-        let Some(to) = enter_row(&mut status, &edges, next, at)? else {
-            return Ok(known);
+        gone = leave(status, edges, tops, gone, below, at);
+        let Some(to) = enter_row(status, edges, next, at)? else {
+            return Ok(());
         };
-        settled = settle_row(
-            rings, anchors, &status, &inner, settled, first.edge, &mut known,
-        );
+        settled = settle_row(rings, anchors, status, inner, settled, first.edge, known);
         if settled >= inner.len() {
-            return Ok(known);
+            return Ok(());
         }
         next = to;
     }
-    Ok(known)
+    Ok(())
 }
 
 /// The anchors of the inner rings, in order of their lower ends.

@@ -52,11 +52,7 @@ fn settle_through(
 fn segs_of(alloc: Global, all: &[SegAt]) -> Result<Vec<Seg>, OutOfMemory>
     ensures { IfOk result (λ v. v.items ≡ map (λ s. s.seg) all.now) }
 {
-    let mut segs = Vec::with_capacity(alloc, all.len())?;
-    for s in all {
-        segs.push(s.seg)?;
-    }
-    Ok(segs)
+    all.iter().map(|s| s.seg).collect(alloc)
 }
 
 /// Whether one sweep finds segments free of conflicts.

@@ -6,17 +6,19 @@ use Rattle.coast_join.specs.declared.nearest_pairs.Matching.{Matching}
 use Rattle.coast_join.proofs.MatchedPairs.{aside_step, take_step}
 use Rattle.coast_join.proofs.nearest_pairs.settle_one.Goals as goal
 
-pub returns-in_default-clause-matched : goal.returns-in_default-clause-matched
-returns-in_default-clause-matched c =
+pub returns-in_default : goal.returns-in_default
+returns-in_default c =
     let m = c.args.matching.now in
     let n : Matching = record { ends = c.mark.new.tree; starts = m.starts; waiting = m.waiting; gaps = m.gaps } in
-    (aside_step c.args.limit m c.requires.matched n c.args.from c.requires.stands c.requires.free c.in_default.ensures c.mark.ensures.tree c.mark.ensures.sites c.mark.ensures.gone refl refl refl).matched
+    let step = aside_step c.args.limit m c.requires.matched n c.args.from c.requires.stands c.requires.free c.in_default.ensures c.mark.ensures.tree c.mark.ensures.sites c.mark.ensures.gone refl refl refl in
+    record { matched = step.matched; further = step.further; fewer = step.fewer }
 
-pub returns-clause-matched : goal.returns-clause-matched
-returns-clause-matched c =
+pub returns : goal.returns
+returns c =
     let m = c.args.matching.now in
     let n : Matching = record { ends = c.mark-2.new.tree; starts = c.mark-3.new.tree; waiting = c.mutual_match.new.waiting; gaps = c.push.new.self } in
-    (take_step c.args.limit m c.requires.matched n c.in_ok-pair.pair c.in_ok-pair.ensures.mutual (lt_of_le_of_lt c.in_ok-pair.ensures.square c.in-Some.ensures.below)
+    let step = take_step c.args.limit m c.requires.matched n c.in_ok-pair.pair c.in_ok-pair.ensures.mutual (lt_of_le_of_lt c.in_ok-pair.ensures.square c.in-Some.ensures.below)
     c.mark-2.ensures.tree c.mark-3.ensures.tree c.mark-2.ensures.sites c.mark-3.ensures.sites c.mark-2.ensures.gone c.mark-3.ensures.gone
     (c.in_ok-pair.ensures.waiting c.requires.matched.waiting)
-    (c.in_ok-push.ensures.items ∙ ap (λ (g : Gap). m.gaps.items ++ g ∷ []) c.gap_of.ensures)).matched
+    (c.in_ok-push.ensures.items ∙ ap (λ (g : Gap). m.gaps.items ++ g ∷ []) c.gap_of.ensures) in
+    record { matched = step.matched; further = step.further; fewer = step.fewer }

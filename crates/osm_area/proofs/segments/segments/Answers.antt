@@ -1,6 +1,8 @@
 -- One more way, whole or not.
-use Rattle.std.proofs.Common.{rules, FitsSigned, w64, ◌≡◌, [], get_or, pos, true, sym, ℤ}
+use Rattle.std.proofs.Common.{rules, FitsSigned, w64, ◌≡◌, ◌∙◌, [], ap, get_or, length, map, pos, true, sym, ℤ}
+use Rattle.std.specs.List.{flat_map}
 use Rattle.std.proofs.lemmas.Int.{to_z-of_z}
+use Rattle.std.proofs.lemmas.List.{take_all}
 use Rattle.osm_area.specs.Missing.{way_missing}
 use Rattle.osm_area.specs.Segments.{way_segments}
 use Rattle.osm_area.proofs.WholeWays.{counted, pushed, some_of}
@@ -28,3 +30,15 @@ loop-way-preserved c =
       whole = sym (pushed (way_missing c.args.store.now) c.args.ways.now c.loop-way.way-index (pos 0) _ c.loop-way-test.true same
           [] [] (sym c.loop-way.invariant.whole) (sym (c.in_ok-add_segments.ensures.whole.0 c.if-not-branch.false)));
     }
+
+pub returns-clause-some : goal.returns-clause-some
+returns-clause-some c = c.loop-way.invariant.segments ∙ ap (flat_map (way_segments c.args.store.now)) (take_all c.loop-way.way-index c.args.ways.now c.loop-way-test.false)
+
+pub returns-clause-counts : goal.returns-clause-counts
+returns-clause-counts c = c.loop-way.invariant.counts ∙ ap (map (λ (way : ℤ). length (way_segments c.args.store.now way))) (take_all c.loop-way.way-index c.args.ways.now c.loop-way-test.false)
+
+pub returns-clause-whole : goal.returns-clause-whole
+returns-clause-whole c =
+    let all = take_all c.loop-way.way-index c.args.ways.now c.loop-way-test.false in
+    let none : flat_map (way_missing c.args.store.now) c.args.ways.now ≡ [] = sym (ap (flat_map (way_missing c.args.store.now)) all) ∙ c.loop-way.invariant.whole in
+    ((λ _. none), (λ _. search rules))

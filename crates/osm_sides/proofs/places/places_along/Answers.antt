@@ -1,7 +1,7 @@
 -- Location by location.
 use Rattle.std.proofs.Common.{List, ap, false, length, map, refl, subst, sym, take, ◌<◌, ◌∙◌, ◌≡◌}
 use Rattle.std.specs.Prelude.{slice_index_or}
-use Rattle.std.proofs.lemmas.List.{map_push, take_more}
+use Rattle.std.proofs.lemmas.List.{take_all}
 use lib.Signed.{lt_z}
 use Rattle.osm_lattice.specs.declared.loc.Loc.{Loc}
 use Rattle.osm_lattice.specs.declared.seg.Seg.{Seg}
@@ -32,3 +32,13 @@ loop-p-preserved c =
       (now.0, λ d inside. next_above points j p d now.0.height.y c.requires.points c.p-item.is now.1 inside),
       one_more_place segs points j p c.loop-p.places.items c.push.new.self.items c.place_of.result c.loop-p.invariant.1 place c.in_ok-push.ensures.items c.p-item.is c.loop-p-test.true,
     )
+
+pub place_of-requires : goal.place_of-requires
+place_of-requires c =
+    let now = c.in_ok-progress.ensures in
+    (c.args.segs.now, c.requires.outline, c.requires.levels, now.0.height, sym now.1, now.0.swept.is)
+
+pub returns : goal.returns
+returns c =
+    let points = c.args.points.now in
+    c.loop-p.invariant.1 ∙ ap (map (λ (p : Loc). place_among p c.args.segs.now)) (take_all c.loop-p.p-index points c.loop-p-test.false)

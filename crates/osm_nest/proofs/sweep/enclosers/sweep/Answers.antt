@@ -11,39 +11,37 @@ use Rattle.osm_nest.specs.SweptEdges.{AreSlopingEdges, IsRowPut, StartsRise, is_
 use Rattle.lists.proofs.ListsKit.{item-in}
 use Rattle.osm_nest.proofs.KnownEnclosers.{none-under-way, status-tells}
 use Rattle.osm_nest.proofs.SweptHeights.{IsRowPassed, IsUnderWay, passed-grows, passed-items, passed-on, passed-whole}
-use Rattle.osm_nest.proofs.sweep.enclosers.swept_enclosers.Goals as goal
+use Rattle.osm_nest.proofs.sweep.enclosers.sweep.Goals as goal
 
 -- what the two calls of a row ensure
-passed-by : (rs : List (List Edge)) (are : AreRings rs) (items given : List RingEdge) (of : AreSlopingEdges rs items) (rise : StartsRise items) → given ≡ items → (next to : ℕ) (at low : Point) → at ≡ low → (status left new : List RingEdge) →
+passed-by : (rs : List (List Edge)) (are : AreRings rs) (items : List RingEdge) (of : AreSlopingEdges rs items) (rise : StartsRise items) → (next to : ℕ) (at low : Point) → at ≡ low → (status left new : List RingEdge) →
     filter (is_within at) left ≡ filter (is_within at) status → ((x : RingEdge) → In x left → In x status) → (row : Option ℕ) → row ≡ Some to →
-    IfSome row (λ to. IsRowPut at given next to (filter (is_within at) left) (filter (is_within at) new)) → IfSome row (λ to. (x : RingEdge) → In x new → (In x left) ⊎ In x (take to given)) →
+    IfSome row (λ to. IsRowPut at items next to (filter (is_within at) left) (filter (is_within at) new)) → IfSome row (λ to. (x : RingEdge) → In x new → (In x left) ⊎ In x (take to items)) →
     IsRowPassed rs are items of rise next to low status new
-passed-by rs are items given of rise same next to at low lower status left new kept stays row is put comes =
-    let put' = subst (λ o. IfSome o (λ to. IsRowPut at given next to (filter (is_within at) left) (filter (is_within at) new))) is put in
-    let comes' = subst (λ o. IfSome o (λ to. (x : RingEdge) → In x new → (In x left) ⊎ In x (take to given))) is comes in
+passed-by rs are items of rise next to at low lower status left new kept stays row is put comes =
     subst (λ o. IsRowPassed rs are items of rise next to o status new) lower record {
       left = left;
       kept = kept;
       stays = stays;
-      put = subst (λ xs. IsRowPut at xs next to (filter (is_within at) left) (filter (is_within at) new)) same put';
-      comes = subst (λ xs. (x : RingEdge) → In x new → (In x left) ⊎ In x (take to xs)) same comes';
+      put = subst (λ o. IfSome o (λ to. IsRowPut at items next to (filter (is_within at) left) (filter (is_within at) new))) is put;
+      comes = subst (λ o. IfSome o (λ to. (x : RingEdge) → In x new → (In x left) ⊎ In x (take to items))) is comes;
     }
 
 pub loop-next-init : goal.loop-next-init
 loop-next-init c = (
   omega arith,
   omega arith,
-  c.in_ok-known.ensures,
-  λ are of rise. subst (IsUnderWay c.args.rings.now are c.in_ok-edges.edges.items of rise 0) (sym c.new-status.ensures) (none-under-way c.args.rings.now are c.in_ok-edges.edges.items of rise),
+  c.requires.known,
+  λ are of rise. subst (IsUnderWay c.args.rings.now are c.args.edges.now of rise 0) (sym c.requires.status) (none-under-way c.args.rings.now are c.args.edges.now of rise),
 )
 
 pub settle_row-settled-requires-clause-tells : goal.settle_row-settled-requires-clause-tells
 settle_row-settled-requires-clause-tells c a an level =
-    let rs = c.args.rings.now in let are = c.requires.rings in let items = c.in_ok-edges.edges.items in let of = c.in_ok-edges.ensures.edges in let rise = c.in_ok-edges.ensures.rise in
-    let next = c.loop-next.next in let first = c.index-first.result.now in let new = c.enter_row.new.status in
+    let rs = c.args.rings.now in let are = c.requires.rings in let items = c.args.edges.now in let of = c.requires.edges in let rise = c.requires.rise in
+    let next = c.loop-next.next in let first = c.index-edges-next.result in let new = c.enter_row.new.status in
     let inside : next < length items = omega arith in
-    let here : first ≡ get_or items next first = c.index-first.ensures in
-    let passed = passed-by rs are items c.deref-in-loop-next-3.result.now of rise c.deref-in-loop-next-3.ensures.value next c.in-Some.to c.lower_end-at.result.now (lower_end first.edge.now) c.lower_end-at.ensures
+    let here : first ≡ get_or items next first = c.index-edges-next.is in
+    let passed = passed-by rs are items of rise next c.in-Some.to c.lower_end-at.result.now (lower_end first.edge.now) c.lower_end-at.ensures
     c.loop-next.status c.leave-gone.new.status new c.leave-gone.ensures.within c.leave-gone.ensures.members _ c.in-Some.is c.in_ok-to.ensures.put c.in_ok-to.ensures.members in
     let way = c.loop-next.invariant.3 are of rise in
     status-tells rs are items of first (item-in items next first inside here) new
@@ -52,11 +50,11 @@ settle_row-settled-requires-clause-tells c a an level =
 
 pub loop-next-smaller : goal.loop-next-smaller
 loop-next-smaller c =
-    let rs = c.args.rings.now in let are = c.requires.rings in let items = c.in_ok-edges.edges.items in let of = c.in_ok-edges.ensures.edges in let rise = c.in_ok-edges.ensures.rise in
-    let next = c.loop-next.next in let first = c.index-first.result.now in let new = c.enter_row.new.status in
+    let rs = c.args.rings.now in let are = c.requires.rings in let items = c.args.edges.now in let of = c.requires.edges in let rise = c.requires.rise in
+    let next = c.loop-next.next in let first = c.index-edges-next.result in let new = c.enter_row.new.status in
     let inside : next < length items = omega arith in
-    let here : first ≡ get_or items next first = c.index-first.ensures in
-    let passed = passed-by rs are items c.deref-in-loop-next-3.result.now of rise c.deref-in-loop-next-3.ensures.value next c.in-Some.to c.lower_end-at.result.now (lower_end first.edge.now) c.lower_end-at.ensures
+    let here : first ≡ get_or items next first = c.index-edges-next.is in
+    let passed = passed-by rs are items of rise next c.in-Some.to c.lower_end-at.result.now (lower_end first.edge.now) c.lower_end-at.ensures
     c.loop-next.status c.leave-gone.new.status new c.leave-gone.ensures.within c.leave-gone.ensures.members _ c.in-Some.is c.in_ok-to.ensures.put c.in_ok-to.ensures.members in
     let grows = passed-grows rs are items of rise next c.loop-next.status new (c.loop-next.invariant.3 are of rise) first inside here c.in-Some.to passed in
     let within = passed.put.within in
@@ -65,15 +63,15 @@ loop-next-smaller c =
 
 pub loop-next-preserved : goal.loop-next-preserved
 loop-next-preserved c =
-    let rs = c.args.rings.now in let items = c.in_ok-edges.edges.items in
-    let next = c.loop-next.next in let first = c.index-first.result.now in let new = c.enter_row.new.status in
+    let rs = c.args.rings.now in let items = c.args.edges.now in
+    let next = c.loop-next.next in let first = c.index-edges-next.result in let new = c.enter_row.new.status in
     let inside : next < length items = omega arith in
-    let here : first ≡ get_or items next first = c.index-first.ensures in
+    let here : first ≡ get_or items next first = c.index-edges-next.is in
     let passed = λ (are : AreRings rs) (of : AreSlopingEdges rs items) (rise : StartsRise items).
-    passed-by rs are items c.deref-in-loop-next-3.result.now of rise c.deref-in-loop-next-3.ensures.value next c.in-Some.to c.lower_end-at.result.now (lower_end first.edge.now) c.lower_end-at.ensures
+    passed-by rs are items of rise next c.in-Some.to c.lower_end-at.result.now (lower_end first.edge.now) c.lower_end-at.ensures
     c.loop-next.status c.leave-gone.new.status new c.leave-gone.ensures.within c.leave-gone.ensures.members _ c.in-Some.is c.in_ok-to.ensures.put c.in_ok-to.ensures.members in (
-      (passed c.requires.rings c.in_ok-edges.ensures.edges c.in_ok-edges.ensures.rise).put.within,
-      subst (λ (xs : List RingEdge). c.settle_row-settled.result ≤ length xs) c.deref-in-loop-next-4.ensures.value c.settle_row-settled.ensures.within,
+      (passed c.requires.rings c.requires.edges c.requires.rise).put.within,
+      c.settle_row-settled.ensures.within,
       c.settle_row-settled.ensures.known,
       λ are of rise. passed-on rs are items of rise next c.loop-next.status new (c.loop-next.invariant.3 are of rise) first inside here c.in-Some.to (passed are of rise),
     )
