@@ -5,7 +5,6 @@ use Rattle.std.specs.Ordering.{is_lt}
 use Rattle.std.proofs.lemmas.Bool.{cases_eq, cases_lt, and_from}
 use Rattle.std.proofs.lemmas.List.{append-nil, take-append-drop, take_more}
 use Rattle.std.proofs.lemmas.List.Elements.{filter-append}
-use Rattle.plane.specs.Edge as plane
 use Rattle.plane.specs.Height.{is_in_span}
 use Rattle.plane.specs.Vector.{Vector}
 use Rattle.lists.proofs.ListsKit.{and-right, at-in, clash, in-all, in-filter, in-left, in-passes, same_get}

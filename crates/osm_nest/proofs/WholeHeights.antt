@@ -66,9 +66,14 @@ not-less a b x h Less e = absurd (grind (arith, ints))
 not-less a b x h Equal e = absurd (grind (arith, ints))
 not-less a b x h Greater e = refl
 
--- a point comes no later than one of which the whole height is greater
-pub rises-by-heights : (p q : Point) (m n : ℤ) → m ≡ ceiling_of (y_of p) → n ≡ ceiling_of (y_of q) → m <ℤ n → is_lt (point_cmp q p) ≡ false
-rises-by-heights p q m n is is' l =
+comes-less : (a b : ℤ) (x : Ordering) → a <ℤ b → (o : Ordering) → int_cmp a b ≡ o → is_lt (ordering_then o x) ≡ true
+comes-less a b x h Less e = refl
+comes-less a b x h Equal e = absurd (grind (arith, ints))
+comes-less a b x h Greater e = absurd (grind (arith, ints))
+
+-- the heights themselves differ where the whole ones do
+height-below : (p q : Point) (m n : ℤ) → m ≡ ceiling_of (y_of p) → n ≡ ceiling_of (y_of q) → m <ℤ n → ((y_of p).num *ℤ pos (y_of q).den) <ℤ ((y_of q).num *ℤ pos (y_of p).den)
+height-below p q m n is is' l =
     let f = y_of p in let g = y_of q in
     let most = at_most_more (ceiling_of f) m f (omega (arith, ints)) (ceiling-is f (y_den-some p)) in
     let below = below-ceiling m g (y_den-some q) (omega (arith, ints)) in
@@ -76,7 +81,19 @@ rises-by-heights p q m n is is' l =
     let first = more-times (g.num -ℤ m *ℤ pos g.den) (pos f.den) (omega (arith, ints)) (omega (arith, ints)) in
     let second = product_not_below (m *ℤ pos f.den -ℤ f.num) (pos g.den) (omega (arith, ints)) (omega (arith, ints)) in
     let sum = crossed f.num g.num m f.den g.den in
-    ap is_lt (sym (point_cmp_is q p)) ∙ not-less (g.num *ℤ pos f.den) (f.num *ℤ pos g.den) (fraction_cmp (x_of q) (x_of p)) (omega (arith, ints)) (int_cmp (g.num *ℤ pos f.den) (f.num *ℤ pos g.den)) refl
+    omega (arith, ints)
+
+-- a point comes no later than one of which the whole height is greater
+pub rises-by-heights : (p q : Point) (m n : ℤ) → m ≡ ceiling_of (y_of p) → n ≡ ceiling_of (y_of q) → m <ℤ n → is_lt (point_cmp q p) ≡ false
+rises-by-heights p q m n is is' l =
+    let f = y_of p in let g = y_of q in
+    ap is_lt (sym (point_cmp_is q p)) ∙ not-less (g.num *ℤ pos f.den) (f.num *ℤ pos g.den) (fraction_cmp (x_of q) (x_of p)) (height-below p q m n is is' l) (int_cmp (g.num *ℤ pos f.den) (f.num *ℤ pos g.den)) refl
+
+-- and it comes before that one
+pub before-by-heights : (p q : Point) (m n : ℤ) → m ≡ ceiling_of (y_of p) → n ≡ ceiling_of (y_of q) → m <ℤ n → is_lt (point_cmp p q) ≡ true
+before-by-heights p q m n is is' l =
+    let f = y_of p in let g = y_of q in
+    ap is_lt (sym (point_cmp_is p q)) ∙ comes-less (f.num *ℤ pos g.den) (g.num *ℤ pos f.den) (fraction_cmp (x_of p) (x_of q)) (height-below p q m n is is' l) (int_cmp (f.num *ℤ pos g.den) (g.num *ℤ pos f.den)) refl
 
 lower-by : (e : Edge) (b : Bool) → IsInWorld (cond b e.from e.to)
 lower-by e true = e.from_in

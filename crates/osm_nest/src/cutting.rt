@@ -4,22 +4,13 @@ ghost use Rattle.std.specs.Prelude.{IfOk};
 ghost use Rattle.osm_nest.specs.Cover.{AreSided};
 ghost use Rattle.osm_nest.specs.Nested.{ArePolygons};
 ghost use Rattle.osm_geom.specs.InPlane.Sided.{IsSided};
-ghost use Rattle.osm_rings.specs.RingList.{AreRingsOf};
 
 use crate::grouping::nest_rings;
 use crate::laws::rings_may_be_nested;
 use crate::polygon::Polygons;
 use osm_geom::{Edge, Edges};
-use osm_rings::{Rings, rings};
+use osm_rings::{rings, rings_of};
 use std::alloc::{AllocError as OutOfMemory, Global};
-
-/// The rings of sided edges, which go.
-fn rings_of(alloc: Global, edges: Edges) -> Result<Rings, OutOfMemory>
-    requires { IsSided edges }
-    ensures { IfOk result (λ rings. AreRingsOf edges rings) }
-{
-    rings(alloc, edges.as_slice())
-}
 
 /// The polygons of sided edges: cut into rings, each inner ring put under the outer one that directly encloses it.
 pub fn polygons(alloc: Global, edges: &[Edge]) -> Result<Polygons, OutOfMemory>
@@ -32,7 +23,8 @@ pub fn polygons(alloc: Global, edges: &[Edge]) -> Result<Polygons, OutOfMemory>
     nest_rings(alloc, rings)
 }
 
-/// What `polygons` gives of edges that aren't needed any more: they go before the rings are nested.
+/// What `polygons` gives of edges that aren't needed any more: they go before the rings are nested, and before the rings are made
+/// if they all run along whole segments.
 pub fn polygons_of(alloc: Global, edges: Edges) -> Result<Polygons, OutOfMemory>
     requires { IsSided edges }
     ensures polygons { IfOk result (λ polygons. ArePolygons edges polygons) }

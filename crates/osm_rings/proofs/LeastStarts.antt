@@ -5,7 +5,7 @@ use Rattle.std.specs.Ordering.{ordering_then}
 use Rattle.std.proofs.lemmas.Bool.{cases_lt}
 use Rattle.std.proofs.lemmas.Int.{ints}
 use Rattle.plane.specs.Sign.{Plus, Null, Sign, sign, then_sign}
-use Rattle.plane.proofs.SignKit.{same, agree, all2, all2-out, all4, all4-out, imp, imp-out, plus-plus, plus-times, weighted-agree, rises_sum}
+use Rattle.plane.proofs.SignKit.{agree, all2, all2-out, all4, all4-out, imp, imp-out, plus-plus, plus-times, weighted-agree, rises_sum}
 use Rattle.osm_geom.specs.declared.edge.Edge.{Edge}
 use Rattle.osm_geom.specs.declared.point.Point.{Point}
 use Rattle.osm_lattice.specs.OrderLaws.{ordering_of}

@@ -1,3 +1,4 @@
+mod AlongPieces
 mod ApartEdges
 mod Clockwise
 mod ClosedWalks
@@ -9,6 +10,7 @@ mod FirstMets
 pub mod LeastStarts
 mod Multiplied
 mod OrbitWalks
+mod PackedEdges
 mod Placed
 mod PlaneNumbers
 pub mod PlaneRings

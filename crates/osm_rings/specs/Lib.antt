@@ -5,6 +5,7 @@ pub mod Laws
 pub mod LeastStart
 pub mod Numbered
 pub mod OneList
+pub mod Packed
 pub mod Pieces
 pub mod Ring
 pub mod RingList

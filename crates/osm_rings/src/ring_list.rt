@@ -1,75 +1,131 @@
 //! The ring list of a sided list of edges.
-ghost use Rattle.std.specs.Prelude.{◌≡◌, ◌<◌, ◌∷◌, [], All, IfOk, List, length, map, ℕ};
-ghost use Rattle.orbits.specs.Along.{StandAlong};
-ghost use Rattle.orbits.specs.Orbits.{after};
+ghost use Rattle.std.specs.Prelude.{◌≡◌, ◌≢◌, ◌<◌, ◌∷◌, [], All, IfOk, List, None, length, map, ℕ};
+ghost use Rattle.orbits.specs.Along.{AreOrbitsAlong, StandAlong};
+ghost use Rattle.orbits.specs.Orbits.{IsOneToOne, after};
 ghost use Rattle.osm_rings.specs.Apart.{LeaveApart};
-ghost use Rattle.osm_rings.specs.Departures.{AreDepartures, IsFirstMet};
+ghost use Rattle.osm_rings.specs.Departures.{AreDepartures, IsFirstMet, TellStarts};
 ghost use Rattle.osm_rings.specs.Numbered.{edge_at};
 ghost use Rattle.osm_rings.specs.Pieces.{AreAllCut, AreRingsAlong, edges_at};
-ghost use Rattle.osm_rings.specs.Ring.{IsRing};
 ghost use Rattle.osm_rings.specs.RingList.{AreRingsOf};
 ghost use Rattle.osm_geom.specs.InPlane.Multiple.{whole_edges};
 ghost use Rattle.osm_geom.specs.InPlane.Sided.{IsSided};
 
 use crate::departures::{Departure, are_apart, departures, node_numbers};
 use crate::few::walks::few_rings;
+use crate::packed::{all_packed, packed_rings};
 use crate::ring::{Ring, Rings};
 use crate::successors::successors;
-use orbits::{cut, cycles};
-use osm_geom::Edge;
+use orbits::{ClosedWalks, cut, cycles};
+use osm_geom::{Edge, Edges};
 use std::alloc::{AllocError as OutOfMemory, Global};
 use std::mem;
 
-/// The rings that are cut off the walks of successors, however many edges meet at a node.
-fn cut_walks(
+/// The numbers of the nodes that edges leave. Their departures go.
+fn numbers_of<'a>(
     alloc: Global,
     edges: &[Edge],
-    departures: &[Departure],
-    next: &[Option<usize>],
-) -> Result<Rings, OutOfMemory>
-    requires sided { IsSided edges.now }
-    requires departures { AreDepartures edges.now departures.now }
-    requires sized { length next.now ≡ length edges.now }
-    requires first { (i : ℕ) → i < length edges.now
-        → IsFirstMet (whole_edges edges.now) (edge_at (whole_edges edges.now) i)
-        (after next.now i) }
-    ensures { IfOk result (λ v. AreRingsOf edges.now v) }
+    departures: Vec<Departure<'a>>,
+) -> Result<Vec<usize>, OutOfMemory>
+    requires { AreDepartures edges.now departures.items }
+    ensures sized { IfOk result (λ v. length v.items ≡ length edges.now) }
+    ensures below { IfOk result (λ v. All (λ k. k < length edges.now) v.items) }
+    ensures tell { IfOk result (λ v. TellStarts edges.now v.items) }
 {
-    let numbers = node_numbers(alloc, edges, departures)?;
-    let walks = cycles(alloc, next)?;
-    let pieces = pieces(alloc, &walks.places, &walks.sizes, &numbers)?;
-    rings_of(alloc, edges, &pieces)
+    node_numbers(alloc, edges, &departures)
 }
 
-/// The rings of successors if no two edges leave one point: no walk is cut.
-fn walked_rings(alloc: Global, edges: &[Edge], next: &[Option<usize>]) -> Result<Rings, OutOfMemory>
+/// The closed walks of a map in which each place goes on. The map goes.
+fn walks_of(alloc: Global, next: Vec<Option<usize>>) -> Result<ClosedWalks, OutOfMemory>
+    requires map { IsOneToOne next.items }
+    requires total { (i : ℕ) → i < length next.items → after next.items i ≢ None }
+    ensures { IfOk result (λ v. AreOrbitsAlong next.items v.places.items v.sizes.items) }
+{
+    cycles(alloc, &next)
+}
+
+/// The pieces that are cut off walks. The walks go, and the numbers of nodes by which they are cut.
+fn pieces_of(
+    alloc: Global,
+    walks: ClosedWalks,
+    numbers: Vec<usize>,
+) -> Result<Vec<Vec<usize>>, OutOfMemory>
+    requires walks { (ws : List (List ℕ)) × StandAlong ws walks.places.items walks.sizes.items
+        × All (λ w. All (λ i. i < length numbers.items) w) ws }
+    requires room { All (λ k. k < length numbers.items) numbers.items }
+    ensures { IfOk result (λ v. (ws : List (List ℕ))
+        → StandAlong ws walks.places.items walks.sizes.items
+        → AreAllCut numbers.items ws (map (λ p. p.items) v.items)) }
+{
+    pieces(alloc, &walks.places, &walks.sizes, &numbers)
+}
+
+/// Pieces one after the other, with room for so many places.
+fn along(alloc: Global, pieces: &[Vec<usize>], room: usize) -> Result<ClosedWalks, OutOfMemory>
+    ensures { IfOk result (λ v.
+        StandAlong (map (λ p. p.items) pieces.now) v.places.items v.sizes.items) }
+{
+    let mut places = Vec::with_capacity(alloc, room)?;
+    let mut sizes = Vec::with_capacity(alloc, pieces.len())?;
+    for piece in pieces {
+        places.extend_from_slice(piece)?;
+        sizes.push(piece.len())?;
+    }
+    Ok(ClosedWalks { places, sizes })
+}
+
+/// The walks of successors, however many edges meet at a node, cut where they return to one.
+fn cut_walks<'a>(
+    alloc: Global,
+    edges: &[Edge],
+    departures: Vec<Departure<'a>>,
+    next: Vec<Option<usize>>,
+) -> Result<ClosedWalks, OutOfMemory>
+    requires sided { IsSided edges.now }
+    requires departures { AreDepartures edges.now departures.items }
+    requires sized { length next.items ≡ length edges.now }
+    requires first { (i : ℕ) → i < length edges.now
+        → IsFirstMet (whole_edges edges.now) (edge_at (whole_edges edges.now) i)
+        (after next.items i) }
+    ensures { IfOk result (λ v. AreRingsAlong edges.now v.places.items v.sizes.items) }
+{
+    let numbers = numbers_of(alloc, edges, departures)?;
+    let walks = walks_of(alloc, next)?;
+    let pieces = pieces_of(alloc, walks, numbers)?;
+    along(alloc, &pieces, edges.len())
+}
+
+/// The walks of successors if no two edges leave one point: none is cut.
+fn whole_walks(
+    alloc: Global,
+    edges: &[Edge],
+    next: Vec<Option<usize>>,
+) -> Result<ClosedWalks, OutOfMemory>
     requires sided { IsSided edges.now }
     requires apart { LeaveApart edges.now }
-    requires sized { length next.now ≡ length edges.now }
+    requires sized { length next.items ≡ length edges.now }
     requires first { (i : ℕ) → i < length edges.now
         → IsFirstMet (whole_edges edges.now) (edge_at (whole_edges edges.now) i)
-        (after next.now i) }
-    ensures { IfOk result (λ v. AreRingsOf edges.now v) }
+        (after next.items i) }
+    ensures { IfOk result (λ v. AreRingsAlong edges.now v.places.items v.sizes.items) }
 {
-    let walks = cycles(alloc, next)?;
-    rings_along(alloc, edges, &walks.places, &walks.sizes)
+    walks_of(alloc, next)
 }
 
-/// The rings of a sided list of edges. If no two edges leave one point, no walk needs to be cut.
+/// The walks of a sided list of edges, of which each is a ring. If no two edges leave one point, no walk needs to be cut.
 ///
 /// Ways: edges of which no two leave one point by whole walks; all others by walks that are cut.
-fn cut_rings(alloc: Global, edges: &[Edge]) -> Result<Rings, OutOfMemory>
+fn ring_walks(alloc: Global, edges: &[Edge]) -> Result<ClosedWalks, OutOfMemory>
     requires { IsSided edges.now }
-    ensures { IfOk result (λ v. AreRingsOf edges.now v) }
+    ensures { IfOk result (λ v. AreRingsAlong edges.now v.places.items v.sizes.items) }
 {
     let departures = departures(alloc, edges)?;
     let next = successors(alloc, edges, &departures)?;
     if are_apart(&departures) {
-        // They are freed before the rings are made.
+        // They are freed before the walks are made.
         mem::drop(departures);
-        return walked_rings(alloc, edges, &next);
+        return whole_walks(alloc, edges, next);
     }
-    cut_walks(alloc, edges, &departures, &next)
+    cut_walks(alloc, edges, departures, next)
 }
 
 /// The rings of a sided list of edges, between any points.
@@ -86,7 +142,34 @@ pub fn rings(alloc: Global, edges: &[Edge]) -> Result<Rings, OutOfMemory>
     if let Some(rings) = few_rings(alloc, edges)? {
         return Ok(rings);
     }
-    cut_rings(alloc, edges)
+    let walks = ring_walks(alloc, edges)?;
+    rings_along(alloc, edges, &walks.places, &walks.sizes)
+}
+
+/// The rings along walks of edges, which go.
+///
+/// Ways: edges that all run along whole segments, packed, so that they go before the rings are made; all others as they are.
+fn rings_by_walks(alloc: Global, edges: Edges, walks: ClosedWalks) -> Result<Rings, OutOfMemory>
+    requires { AreRingsAlong edges walks.places.items walks.sizes.items }
+    ensures { IfOk result (λ v. AreRingsOf edges v) }
+{
+    let Some(all) = all_packed(alloc, edges.as_slice())? else {
+        return rings_along(alloc, edges.as_slice(), &walks.places, &walks.sizes);
+    };
+    mem::drop(edges);
+    packed_rings(alloc, &all, &walks.places, &walks.sizes)
+}
+
+/// What `rings` gives of edges that aren't needed any more: they go before the rings are made, if all run along whole segments.
+pub fn rings_of(alloc: Global, edges: Edges) -> Result<Rings, OutOfMemory>
+    requires { IsSided edges }
+    ensures { IfOk result (λ v. AreRingsOf edges v) }
+{
+    if let Some(rings) = few_rings(alloc, edges.as_slice())? {
+        return Ok(rings);
+    }
+    let walks = ring_walks(alloc, edges.as_slice())?;
+    rings_by_walks(alloc, edges, walks)
 }
 
 /// The pieces that are cut off walks. `places` has the walks one after the other, and `sizes` how many places each has.
@@ -124,19 +207,6 @@ pub fn edges_at(alloc: Global, edges: &[Edge], places: &[usize]) -> Result<Vec<E
         found.push(edges[place])?;
     }
     Ok(found)
-}
-
-/// The rings whose edges are at these places.
-fn rings_of(alloc: Global, edges: &[Edge], pieces: &[Vec<usize>]) -> Result<Rings, OutOfMemory>
-    requires inside { All (λ p. All (λ k. k < length edges.now) p.items) pieces.now }
-    requires rings { All (λ p. IsRing (edges_at edges.now p.items)) pieces.now }
-    ensures { IfOk result (λ v. v ≡ map (λ p. edges_at edges.now p.items) pieces.now) }
-{
-    let mut rings = Rings::with_capacity(alloc, pieces.len())?;
-    for piece in pieces {
-        rings.push(Ring::of_edges(edges_at(alloc, edges, piece)?))?;
-    }
-    Ok(rings)
 }
 
 /// The rings along walks. `places` has the walks one after the other, and `sizes` how many places each has.

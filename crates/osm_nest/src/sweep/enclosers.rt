@@ -112,8 +112,7 @@ fn inner_anchors<'a>(
             inner.push(anchors.edges[place])?;
         }
     }
-    let inner = by_lower_ends(inner)?;
-    Ok(inner)
+    Ok(by_lower_ends(inner))
 }
 
 /// None for each ring.

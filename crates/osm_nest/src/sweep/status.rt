@@ -134,7 +134,7 @@ fn ends_between(edges: &[RingEdge], tops: &[Top], next: usize, below: &Point, at
     if next >= tops.len() {
         return false;
     }
-    let place = tops[next].place;
+    let place = tops[next].place as usize;
     if place >= edges.len() {
         return false;
     }
@@ -159,7 +159,7 @@ pub(crate) fn leave(
 {
     let mut next = from;
     while ends_between(edges, tops, next, below, at) {
-        take_out(status, &edges[tops[next].place], below, at);
+        take_out(status, &edges[tops[next].place as usize], below, at);
         next += 1;
     }
     next

@@ -13,6 +13,6 @@ use Rattle.osm_nest.proofs.sweep.ring_edges.sorted_by_lower_ends.Goals as goal
 pub returns-clause-rise : goal.returns-clause-rise
 returns-clause-rise c =
     let o = ranks_by point_total (λ (i : RingEdge). lower_end i.edge.now) in
-    sorted_far (λ (i j : RingEdge). is_lt (point_cmp (lower_end i.edge.now) (lower_end j.edge.now))) o c.sort_by.new.self.items
-    (c.in_ok-sort_by.ensures.sorted (λ i j. is_lt (point_cmp (lower_end i.edge.now) (lower_end j.edge.now))) o
+    sorted_far (λ (i j : RingEdge). is_lt (point_cmp (lower_end i.edge.now) (lower_end j.edge.now))) o c.sort_unstable_by.new.self.items
+    (c.sort_unstable_by.ensures.sorted (λ i j. is_lt (point_cmp (lower_end i.edge.now) (lower_end j.edge.now))) o
     (always_returns_same _ (λ a r. is_lt r ≡ is_lt (point_cmp (lower_end a.0.now.edge.now) (lower_end a.1.0.now.edge.now))) _ (λ a r f' k. search rules)))

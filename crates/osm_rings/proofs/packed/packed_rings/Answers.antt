@@ -1,0 +1,49 @@
+-- One more walk is taken off the places left: it is a ring.
+use Rattle.std.proofs.Common.{[], All, ap, arith, get_or, length, map, subst, sym, take, ◌++◌, ◌<◌, ◌∷◌, ◌≡◌, ◌∙◌}
+use Rattle.std.proofs.lemmas.List.{take_all}
+use Rattle.lists.proofs.ListsKit.{at-in, in-map}
+use Rattle.osm_rings.specs.Pieces.{edges_at}
+use Rattle.osm_rings.specs.Ring.{IsRing}
+use Rattle.osm_rings.specs.RingList.{AreRingsOf}
+use Rattle.osm_rings.proofs.WalkedRings.{as-many, in-walks, rest-is, rings-more, walk-fits, walk-is}
+use Rattle.osm_rings.proofs.packed.packed_rings.Goals as goal
+
+pub loop-size-init : goal.loop-size-init
+loop-size-init c es packed are = (sym are.along.joined, c.in_ok-rings.ensures)
+
+pub split_at-requires : goal.split_at-requires
+split_at-requires c =
+    let q = c.requires in let are = q.2 in
+    walk-fits are.walks c.args.places.now c.args.sizes.now are.along c.loop-size.size-index c.loop-size-test.true c.loop-size.left.now (c.loop-size.invariant q.0 q.1 are).0
+
+pub unpacked_at-requires : goal.unpacked_at-requires
+unpacked_at-requires c =
+    let q = c.requires in let es = q.0 in let are = q.2 in let k = c.loop-size.size-index in let places = c.args.places.now in let sizes = c.args.sizes.now in
+    let walk = get_or are.walks k [] in
+    let front : c.split_at.result.0.now ≡ walk = c.split_at.ensures.front ∙ walk-is are.walks places sizes are.along k c.loop-size-test.true c.loop-size.left.now (c.loop-size.invariant es q.1 are).0 in
+    let within : All (λ i. i < length es) walk = are.within k [] (in-walks are.walks places sizes are.along k c.loop-size-test.true) in
+    subst (All (λ i. i < length c.args.all.now)) (sym front) (subst (λ n. All (λ i. i < n) walk) (sym q.1.long) within)
+
+pub of_edges-requires : goal.of_edges-requires
+of_edges-requires c =
+    let q = c.requires in let es = q.0 in let are = q.2 in let k = c.loop-size.size-index in let places = c.args.places.now in let sizes = c.args.sizes.now in
+    let walk = get_or are.walks k [] in
+    let front : c.split_at.result.0.now ≡ walk = c.split_at.ensures.front ∙ walk-is are.walks places sizes are.along k c.loop-size-test.true c.loop-size.left.now (c.loop-size.invariant es q.1 are).0 in
+    let there = in-map (edges_at es) are.walks walk (at-in are.walks k [] (in-walks are.walks places sizes are.along k c.loop-size-test.true)) in
+    subst IsRing (sym (c.in_ok-unpacked_at.ensures es q.1 ∙ ap (edges_at es) front)) (are.rings.ring (edges_at es walk) there)
+
+pub loop-size-preserved : goal.loop-size-preserved
+loop-size-preserved c es packed are =
+    let k = c.loop-size.size-index in let places = c.args.places.now in let sizes = c.args.sizes.now in
+    let so_far = c.loop-size.invariant es packed are in
+    let walk = get_or are.walks k [] in
+    let front : c.split_at.result.0.now ≡ walk = c.split_at.ensures.front ∙ walk-is are.walks places sizes are.along k c.loop-size-test.true c.loop-size.left.now so_far.0 in (
+      c.split_at.ensures.back ∙ rest-is are.walks places sizes are.along k c.loop-size-test.true c.loop-size.left.now so_far.0,
+      c.in_ok-push.ensures.ok ∙ (ap (λ ring. c.loop-size.rings ++ ring ∷ []) (c.of_edges.ensures ∙ (c.in_ok-unpacked_at.ensures es packed ∙ ap (edges_at es) front)) ∙ rings-more are.walks places sizes are.along k c.loop-size-test.true es c.loop-size.rings so_far.1),
+    )
+
+pub returns : goal.returns
+returns c es packed are =
+    let all = as-many are.walks c.args.places.now c.args.sizes.now are.along in
+    let whole : take c.loop-size.size-index are.walks ≡ are.walks = take_all c.loop-size.size-index are.walks (omega arith) in
+    subst (AreRingsOf es) (sym ((c.loop-size.invariant es packed are).1 ∙ ap (map (edges_at es)) whole)) are.rings
