@@ -1,4 +1,5 @@
 mod Counted
+mod OneMore
 mod Rising
 mod Short
 mod Sampled

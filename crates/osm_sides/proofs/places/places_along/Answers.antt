@@ -1,5 +1,5 @@
 -- Location by location.
-use Rattle.std.proofs.Common.{List, ap, false, length, map, refl, subst, sym, take, ◌<◌, ◌∙◌, ◌≡◌}
+use Rattle.std.proofs.Common.{List, ap, false, length, map, subst, sym, ◌<◌, ◌∙◌, ◌≡◌}
 use Rattle.std.specs.Prelude.{slice_index_or}
 use Rattle.std.proofs.lemmas.List.{take_all}
 use lib.Signed.{lt_z}
