@@ -1,8 +1,8 @@
 -- What a host over an opener and standard streams is, and what its parts hold.
-use Rattle.std.specs.Prelude.{ℕ, List, [], ◌∷◌, None, Option, false, codes, if◌then◌else◌}
+use Rattle.std.specs.Prelude.{ℕ, List, [], ◌∷◌, None, Option, Bool, false, codes, if◌then◌else◌}
 use Rattle.std.specs.Str.{bytes_eq}
 use Rattle.osm_host.specs.Outside.{Opened, Outside, appended}
-use Rattle.osm_host.specs.Streams.{left_in, held_by}
+use Rattle.osm_host.specs.Streams.{left_in, held_by, is_standard_source, is_opened_source, is_standard_sink}
 use Rattle.osm_host.specs.declared.stream_host.StreamHost.{StreamHost}
 
 -- all contents are unknown, and only its counts are known
@@ -46,6 +46,17 @@ files_asked asked host = asked host.opener
 -- the opener is asked for an open, unless it is that of a standard stream, `-`
 abbrev pub asked_behind : Option (List Opened) → List ℕ → Opened → Option (List Opened)
 asked_behind asked name opened = if bytes_eq name (codes "-") then asked else appended asked (opened ∷ [])
+
+-- it reads standard input, or an opened file
+abbrev pub reads_standard : {D R W I O E : Type 0} → StreamHost D R W I O E → Bool
+reads_standard host = is_standard_source host.source
+
+abbrev pub reads_file : {D R W I O E : Type 0} → StreamHost D R W I O E → Bool
+reads_file host = is_opened_source host.source
+
+-- it writes to standard output, and to no opened file
+abbrev pub writes_standard : {D R W I O E : Type 0} → StreamHost D R W I O E → Bool
+writes_standard host = is_standard_sink host.sink
 
 -- what is left of the input
 abbrev pub input_left : {D R W I O E : Type 0} → (I → Option (List ℕ)) → (R → Option (List ℕ)) → StreamHost D R W I O E → Option (List ℕ)

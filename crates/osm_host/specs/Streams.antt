@@ -1,5 +1,5 @@
 -- What the source of an input has left, and what the sink of an output holds.
-use Rattle.std.specs.Prelude.{ℕ, List, [], Option, Some}
+use Rattle.std.specs.Prelude.{ℕ, Bool, true, false, List, [], Option, Some}
 use Rattle.osm_host.specs.declared.stream_host.Sink.{Sink}
 use Rattle.osm_host.specs.declared.stream_host.Sink.TheVariants as sink
 use Rattle.osm_host.specs.declared.stream_host.Source.{Source}
@@ -15,3 +15,20 @@ left_in standard opened input (source.Opened file) = opened file
 abbrev pub held_by : {W O : Type 0} → (O → Option (List ℕ)) → (W → Option (List ℕ)) → O → Sink W → Option (List ℕ)
 held_by standard opened output sink.Standard = standard output
 held_by standard opened output (sink.Opened file) = opened file
+
+-- the input is standard input
+abbrev pub is_standard_source : {R : Type 0} → Source R → Bool
+is_standard_source source.Nothing = false
+is_standard_source source.Standard = true
+is_standard_source (source.Opened file) = false
+
+-- the input is an opened file
+abbrev pub is_opened_source : {R : Type 0} → Source R → Bool
+is_opened_source source.Nothing = false
+is_opened_source source.Standard = false
+is_opened_source (source.Opened file) = true
+
+-- the output is standard output, and no opened file
+abbrev pub is_standard_sink : {W : Type 0} → Sink W → Bool
+is_standard_sink sink.Standard = true
+is_standard_sink (sink.Opened file) = false

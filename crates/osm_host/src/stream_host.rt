@@ -101,7 +101,7 @@ fn put_into<W: Write, O: Write>(
 
 impl<D: Opener<R, W> + Drop, R: Read + Drop, W: Write + Drop, I: Read, O: Write, E: Write> Host
     for StreamHost<D, R, W, I, O, E> {
-    ghost use Rattle.osm_host.specs.StreamHost.{stream_outside, files_asked, asked_behind, input_left, output_held, report_held};
+    ghost use Rattle.osm_host.specs.StreamHost.{stream_outside, files_asked, asked_behind, input_left, output_held, report_held, reads_file, reads_standard, writes_standard};
 
     ghost seen = { stream_outside };
 
@@ -122,6 +122,10 @@ impl<D: Opener<R, W> + Drop, R: Read + Drop, W: Write + Drop, I: Read, O: Write,
         ensures rest { OnlyOpens (stream_outside self.old) (stream_outside self.new) }
         ensures asked { files_asked D.asked self.new
             ≡ asked_behind (files_asked D.asked self.old) name.now (input name.now) }
+        ensures from_standard { OnOk result (reads_standard self.new
+            ≡ bytes_eq name.now (codes "-")) }
+        ensures from_file { OnOk result (reads_file self.new
+            ≡ not (bytes_eq name.now (codes "-"))) }
     {
         if name == "-" {
             self.source = Source::Standard;
@@ -187,6 +191,8 @@ impl<D: Opener<R, W> + Drop, R: Read + Drop, W: Write + Drop, I: Read, O: Write,
         ensures rest { OnlyOpens (stream_outside self.old) (stream_outside self.new) }
         ensures asked { files_asked D.asked self.new
             ≡ asked_behind (files_asked D.asked self.old) name.now (output name.now overwrite) }
+        ensures to_standard { OnOk result (writes_standard self.new
+            ≡ bytes_eq name.now (codes "-")) }
     {
         if name == "-" {
             self.sink = Sink::Standard;
