@@ -5,7 +5,7 @@ use Rattle.std.proofs.Math.Path.{ap, sym, ◌∙◌}
 use Rattle.std.specs.List.{flat_map}
 use Rattle.std.proofs.lemmas.Bool.{cases_eq, cases_lt}
 use Rattle.std.proofs.lemmas.List.{ext_get_or, get_or_past}
-use Rattle.chunked_list.specs.Blocks.{AreBlocks, Begins, IsNoted, sums_from}
+use Rattle.chunked_list.specs.Blocks.{AreBlocks, Begins, IsSummed, sums_from}
 use Rattle.chunked_list.specs.Starts.{starts_from}
 use Rattle.chunked_list.proofs.Fronts.{front-rises, front-within, length-starts, next-front, start-at}
 use Rattle.chunked_list.proofs.Summed.{at, base, length-sums, long, sum-at}
@@ -32,7 +32,7 @@ module _ {X C : Type 0} (f : C → List X) (cs : List C) (bs ws : List ℕ) wher
       omega (arith, one, two, three, front-rises f cs i (suc i) (omega arith)))
       (cases_eq (suc i % 64) 0)
 
-  pub counted_more : (new_bs new_ws : List ℕ) (i count size : ℕ) (c : C) → i < length cs → size ≡ length (f (get_or cs i c)) → IsCounted f cs bs ws i count → IsNoted i count bs ws new_bs new_ws → IsCounted f cs new_bs new_ws (i + 1) (count + size)
+  pub counted_more : (new_bs new_ws : List ℕ) (i count size : ℕ) (c : C) → i < length cs → size ≡ length (f (get_or cs i c)) → IsCounted f cs bs ws i count → IsSummed i count bs ws new_bs new_ws → IsCounted f cs new_bs new_ws (i + 1) (count + size)
   counted_more new_bs new_ws i count size c inside own are noted =
       let blocks = noted.blocks_long in let within = noted.within_long in let here = are.here in
       let next : i + 1 ≡ suc i = omega arith in

@@ -33,7 +33,7 @@ pub record IsEndOfBlock (place all end : ℕ) : Type 0 where
   pub last : (k : ℕ) → end ≤ k → k < all → 64 * (place / 64) + 64 ≤ k
 
 -- a place has a number as its sum; what stands before it is as it was
-pub record IsNoted (place count : ℕ) (blocks within blocks' within' : List ℕ) : Type 0 where
+pub record IsSummed (place count : ℕ) (blocks within blocks' within' : List ℕ) : Type 0 where
   pub blocks_long : length blocks' ≡ length blocks
   pub within_long : length within' ≡ length within
   pub sum : slice_index_or (0 ∷ blocks') (place / 64) 0 + slice_index_or within' place 0 ≡ count

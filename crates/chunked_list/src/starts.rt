@@ -1,7 +1,7 @@
-//! How many items stand before each chunk, in blocks: an item more changes the numbers of the rest of its block, and one for each later block.
+//! How many items stand before each chunk. This is counted in blocks: an item more changes the numbers of the rest of its block, and one for each later block.
 ghost use Rattle.std.specs.Prelude.{◌≡◌, ◌<◌, ◌≤◌, ◌+◌, ◌-◌, ◌*◌, ◌/◌, ◌++◌, ◌∷◌, ◌^◌, All, List, ℕ, [], drop, length, map, false, slice_index_or, take, true, OnOk, OnErr};
 ghost use Rattle.std.specs.List.{flat_map};
-ghost use Rattle.chunked_list.specs.Blocks.{AreBlocks, AreChanged, Begins, IsEndOfBlock, IsNoted, sums_from};
+ghost use Rattle.chunked_list.specs.Blocks.{AreBlocks, AreChanged, Begins, IsEndOfBlock, IsSummed, sums_from};
 ghost use Rattle.chunked_list.specs.Starts.{starts_from};
 
 use std::alloc::{AllocError as OutOfMemory, Global};
@@ -28,7 +28,7 @@ impl Model for Starts {
 }
 
 impl Starts {
-    /// None, of no chunks.
+    /// Those of no chunks.
     pub(crate) fn new(alloc: Global) -> Starts
         ensures { result ≡ [] }
     {
@@ -197,7 +197,7 @@ fn note(blocks: &mut Vec<usize>, within: &mut Vec<usize>, chunk: usize, count: u
     requires blocks { length within.old.items ≤ 64 * length blocks.old.items + 64 }
     requires base { (Begins chunk → ⊥)
         → slice_index_or (0 ∷ blocks.old.items) (chunk / 64) 0 ≤ count }
-    ensures { IsNoted chunk count blocks.old.items within.old.items blocks.new.items
+    ensures { IsSummed chunk count blocks.old.items within.old.items blocks.new.items
         within.new.items }
 {
     if begins_block(chunk) {
