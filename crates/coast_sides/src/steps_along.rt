@@ -3,6 +3,8 @@
 ghost use Rattle.std.specs.Prelude.{◌≡◌, ◌-◌, ◌≤◌, ◌++◌, ◌∷◌, [], IfOk, OnOk, drop, length, take};
 ghost use Rattle.std.specs.Option.{option_to_list};
 ghost use Rattle.std.specs.List.Sorted.{IsSorted};
+ghost use Rattle.std.specs.Ordering.{is_le, is_lt};
+ghost use Rattle.osm_lattice.specs.Seg.{seg_cmp};
 ghost use Rattle.coast_sides.specs.ShortcutSteps.{AreAlong, AreStepsAlong, step_along, step_along_cmp, steps_along};
 
 use crate::ring_segments::next_round;
@@ -62,13 +64,27 @@ fn part(steps: &[StepAlong], from: usize, end: usize) -> &[StepAlong]
     &steps[from..end]
 }
 
+/// Whether a step runs along a lesser segment.
+fn is_below(step: &StepAlong, seg: Seg) -> bool
+    ensures { result ≡ is_lt (seg_cmp step.now.seg seg) }
+{
+    step.seg < seg
+}
+
+/// Whether a step runs along a segment or a lesser one.
+fn is_up_to(step: &StepAlong, seg: Seg) -> bool
+    ensures { result ≡ is_le (seg_cmp step.now.seg seg) }
+{
+    step.seg <= seg
+}
+
 /// The steps along one segment, in order of places.
 pub(crate) fn along(steps: &[StepAlong], seg: Seg) -> &[StepAlong]
     requires { IsSorted step_along_cmp steps.now }
     ensures { AreAlong steps.now seg result.now }
 {
     orders_are_exact();
-    let from = steps.partition_point(|step| step.seg < seg);
-    let end = steps.partition_point(|step| step.seg <= seg);
+    let from = steps.partition_point(|step| is_below(step, seg));
+    let end = steps.partition_point(|step| is_up_to(step, seg));
     part(steps, from, end)
 }

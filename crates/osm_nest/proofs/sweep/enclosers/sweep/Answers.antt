@@ -1,5 +1,5 @@
 -- One more row.
-use Rattle.std.proofs.Common.{List, Option, Some, arith, filter, get_or, length, subst, sym, take, ℕ, ◌-◌, ◌<◌, ◌≡◌, ◌≤◌, ◌⊎◌}
+use Rattle.std.proofs.Common.{List, Option, Some, arith, filter, get_or, length, subst, sym, take, ℕ, ◌-◌, ◌<◌, ◌≡◌, ◌⊎◌}
 use Rattle.std.specs.Prelude.{IfSome}
 use Rattle.lists.specs.Member.{In}
 use Rattle.osm_geom.specs.declared.edge.Edge.{Edge}
