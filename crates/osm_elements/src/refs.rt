@@ -13,9 +13,6 @@ use osm_lattice::Loc;
 use std::alloc::{AllocError as OutOfMemory, Global};
 use std::marker::Model;
 
-/// How many bytes a reference gets room for. They suffice for one with a location, if it is near the first.
-const ROOM: usize = 8;
-
 /// The references of a way, in order.
 ///
 /// Each takes one byte or two if its id is near that of the first, and about five if it carries a location near that of the
@@ -203,15 +200,6 @@ impl Refs {
         Refs {
             bytes: Block::new(alloc),
         }
-    }
-
-    /// The empty list, with room for this many references that are near each other.
-    pub fn with_capacity(alloc: Global, room: usize) -> Result<Refs, OutOfMemory>
-        ensures { IfOk result (λ refs. refs ≡ []) }
-    {
-        Ok(Refs {
-            bytes: Block::with_capacity(alloc, room.saturating_mul(ROOM))?,
-        })
     }
 
     /// Adds a reference at the end. After an `Err` the list is unchanged.

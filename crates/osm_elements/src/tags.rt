@@ -86,16 +86,6 @@ impl Tags {
         }
     }
 
-    /// The empty list, with room for this many bytes. Those of the texts, and one for each text of fewer than 192, suffice.
-    pub fn with_capacity(alloc: Global, bytes: usize) -> Result<Tags, OutOfMemory>
-        ensures { IfOk result (λ tags. tags ≡ []) }
-    {
-        Ok(Tags {
-            texts: Block::with_capacity(alloc, bytes)?,
-            count: 0,
-        })
-    }
-
     /// Adds a copy of a tag at the end. After an `Err` the list is unchanged.
     /// Texts of 2^32 or more bytes are refused as out of memory.
     pub fn push(&mut self, key: &str, value: &str) -> Result<(), OutOfMemory>
