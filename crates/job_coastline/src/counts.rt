@@ -82,15 +82,15 @@ fn with_pieces(tally: Tally, pieces: &Pieces) -> Result<Tally, OutOfMemory>
     })
 }
 
-/// Counts what a leaf makes.
+/// Counts what a leaf makes, which goes.
 fn count_leaf(
     alloc: Global,
     kind: PieceKind,
-    leaf: &Leaf,
+    leaf: Leaf,
     tally: Tally,
 ) -> Result<Tally, OutOfMemory>
-    requires { IsSided leaf.now.edges }
-    ensures { IfOk result (λ after. CountsLeaves kind (leaf.now ∷ []) tally after) }
+    requires { IsSided leaf.edges }
+    ensures { IfOk result (λ after. CountsLeaves kind (leaf ∷ []) tally after) }
 {
     let pieces = pieces_of(alloc, kind, leaf)?;
     with_pieces(tally, &pieces)
@@ -114,7 +114,7 @@ fn count_leaves_of(
     for _ in 0..ANY_NUMBER {
         let next = leaves.next()?;
         match next {
-            Some(leaf) => now = count_leaf(alloc, kind, &leaf, now)?,
+            Some(leaf) => now = count_leaf(alloc, kind, leaf, now)?,
             None => return Ok(now),
         }
     }

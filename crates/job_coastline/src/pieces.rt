@@ -9,7 +9,7 @@ ghost use Rattle.osm_geom.specs.InPlane.Sided.{IsSided};
 
 use coast_split::Leaf;
 use osm_geom::Loc;
-use osm_nest::{Polygon, polygons};
+use osm_nest::{Polygon, polygons_of};
 use osm_text::{CoastLine, PieceKind, piece_text};
 use std::alloc::{AllocError as OutOfMemory, Global};
 
@@ -89,27 +89,27 @@ fn add_large(leaf: &Leaf, pieces: &mut Pieces) -> Result<(), OutOfMemory>
     Ok(())
 }
 
-/// Adds what a leaf makes.
+/// Adds what a leaf makes. Its edges go before its polygons are printed.
 fn add_leaf(
     alloc: Global,
     kind: PieceKind,
-    leaf: &Leaf,
+    leaf: Leaf,
     pieces: &mut Pieces,
 ) -> Result<(), OutOfMemory>
-    requires sided { IsSided leaf.now.edges }
+    requires sided { IsSided leaf.edges }
     requires texts { pieces.old.texts.items ≡ [] }
     requires lines { pieces.old.lines.items ≡ [] }
-    ensures { OnOk result (ArePiecesOf kind leaf.now pieces.new) }
+    ensures { OnOk result (ArePiecesOf kind leaf pieces.new) }
 {
-    add_large(leaf, pieces)?;
-    let polygons = polygons(alloc, leaf.edges.as_slice())?;
+    add_large(&leaf, pieces)?;
+    let polygons = polygons_of(alloc, leaf.edges)?;
     add_polygons(alloc, kind, polygons.as_slice(), pieces)
 }
 
-/// What a leaf makes.
-pub(crate) fn pieces_of(alloc: Global, kind: PieceKind, leaf: &Leaf) -> Result<Pieces, OutOfMemory>
-    requires { IsSided leaf.now.edges }
-    ensures { IfOk result (λ pieces. ArePiecesOf kind leaf.now pieces) }
+/// What a leaf makes, which goes.
+pub(crate) fn pieces_of(alloc: Global, kind: PieceKind, leaf: Leaf) -> Result<Pieces, OutOfMemory>
+    requires { IsSided leaf.edges }
+    ensures { IfOk result (λ pieces. ArePiecesOf kind leaf pieces) }
 {
     let mut pieces = Pieces {
         texts: Vec::new(alloc),

@@ -33,16 +33,16 @@ pub(crate) enum BrokenOff {
     OutOfMemory,
 }
 
-/// Writes what a leaf makes, and keeps its report lines.
+/// Writes what a leaf makes, and keeps its report lines. The leaf goes.
 fn write_leaf<H: Host>(
     alloc: Global,
     kind: PieceKind,
-    leaf: &Leaf,
+    leaf: Leaf,
     lines: &mut Vec<CoastLine>,
     host: &mut H,
 ) -> Result<(), BrokenOff>
-    requires { IsSided leaf.now.edges }
-    ensures { WroteLeaves kind (leaf.now ∷ []) lines.old.items lines.new.items
+    requires { IsSided leaf.edges }
+    ensures { WroteLeaves kind (leaf ∷ []) lines.old.items lines.new.items
         (H.seen host.old) (H.seen host.new) result }
 {
     // By law: where memory runs out the leaf has its pieces all the same.
@@ -83,7 +83,7 @@ fn write_leaves<H: Host>(
         let Some(leaf) = next else {
             return Ok(());
         };
-        if let Err(broken) = write_leaf(alloc, kind, &leaf, lines, host) {
+        if let Err(broken) = write_leaf(alloc, kind, leaf, lines, host) {
             return Err(broken);
         }
     }

@@ -1,5 +1,4 @@
 use Rattle.std.proofs.Common.{subst, sym, List}
-use Rattle.osm_geom.specs.declared.edge.Edge.{Edge}
 use Rattle.osm_nest.specs.declared.polygon.Polygon.{Polygon}
 use Rattle.osm_nest.specs.Nested.{ArePolygons}
 use Rattle.job_coastline.proofs.Growing.{on_ok}
@@ -9,7 +8,5 @@ use Rattle.job_coastline.proofs.pieces.add_leaf.Goals as goal
 pub returns : goal.returns
 returns c =
     on_ok c.add_polygons.result _ _
-    (leaf_pieces c.args.kind c.args.leaf.now c.as_slice-2.result.now c.args.pieces.now c.add_large.new.pieces c.add_polygons.new.pieces c.requires.texts c.requires.lines
-    (subst (λ (ps : List Polygon). ArePolygons c.args.leaf.now.edges ps) (sym c.as_slice-2.ensures)
-    (subst (λ (es : List Edge). ArePolygons es c.in_ok-polygons.polygons) c.as_slice.ensures c.in_ok-polygons.ensures.polygons))
-    c.in_ok-add_large.ensures) c.add_polygons.ensures
+    (leaf_pieces c.args.kind c.args.leaf c.as_slice.result.now c.args.pieces.now c.add_large.new.pieces c.add_polygons.new.pieces c.requires.texts c.requires.lines
+    (subst (λ (ps : List Polygon). ArePolygons c.args.leaf.edges ps) (sym c.as_slice.ensures) c.in_ok-polygons.ensures.polygons) c.in_ok-add_large.ensures) c.add_polygons.ensures
