@@ -1,9 +1,10 @@
 //! A row's run over a host in memory, and where it differs from what is wanted.
 
-use crate::form::{BlockFault, Field, find, first_word};
+use crate::form::{Field, RowFault, first_word, if_said, number, said, text_of};
+use crate::telling::tell;
+use crate::words::words_of;
 use osm_cli::{Ended, command_of, run, status};
 use std::alloc::{AllocError as OutOfMemory, Global};
-use std::fmt::Write;
 use tests_host::MemoryHost;
 
 /// The host's room for what is written.
@@ -14,8 +15,8 @@ pub(crate) fn tell_run(
     alloc: Global,
     fields: &[Field<'_>],
     told: &mut String,
-) -> Result<(), BlockFault> {
-    let digits = said(fields, "most").unwrap_or("65536");
+) -> Result<(), RowFault> {
+    let digits = if_said(fields, "most").unwrap_or("65536");
     let most = number(digits)?;
     let mut host = MemoryHost::new(alloc, (most as usize).max(1));
     run_over(alloc, fields, &mut host, told)
@@ -27,12 +28,12 @@ fn run_over(
     fields: &[Field<'_>],
     host: &mut MemoryHost,
     told: &mut String,
-) -> Result<(), BlockFault> {
+) -> Result<(), RowFault> {
     host.reserve(ROOM)?;
     for field in fields {
         prepare(field, host)?;
     }
-    let words = words_of(alloc, said(fields, "words").unwrap_or(""))?;
+    let words = words_of(alloc, said(fields, "words"))?;
     tell_differences(alloc, fields, &words, host, told)
 }
 
@@ -43,10 +44,10 @@ fn tell_differences(
     words: &[String],
     host: &mut MemoryHost,
     told: &mut String,
-) -> Result<(), BlockFault> {
+) -> Result<(), RowFault> {
     let ended = run(alloc, words, host);
     let status = status(command_of(words), &ended);
-    let ends = said(fields, "ends").unwrap_or("0");
+    let ends = if_said(fields, "ends").unwrap_or("0");
     tell_ending(alloc, ends, status, ended, told)?;
     tell("out", text_of(fields, "out"), host.out(), told)?;
     tell("report", text_of(fields, "report"), host.report(), told)?;
@@ -54,7 +55,7 @@ fn tell_differences(
 }
 
 /// Gives a host what a field says of it.
-fn prepare(field: &Field<'_>, host: &mut MemoryHost) -> Result<(), BlockFault> {
+fn prepare(field: &Field<'_>, host: &mut MemoryHost) -> Result<(), RowFault> {
     match field.word {
         "input" => Ok(host.add_input(first_word(field.said).0, &field.text)?),
         "taken" => Ok(host.take_name(field.said)?),
@@ -64,44 +65,11 @@ fn prepare(field: &Field<'_>, host: &mut MemoryHost) -> Result<(), BlockFault> {
 }
 
 /// Lets the calls of these numbers fail.
-fn fail_at(numbers: &str, host: &mut MemoryHost) -> Result<(), BlockFault> {
+fn fail_at(numbers: &str, host: &mut MemoryHost) -> Result<(), RowFault> {
     for digits in numbers.split_whitespace() {
         host.fail_at(number(digits)?)?;
     }
     Ok(())
-}
-
-/// The number of these digits.
-fn number(digits: &str) -> Result<u64, BlockFault> {
-    match digits.parse::<u64>() {
-        Ok(number) => Ok(number),
-        Err(_) => Err(BlockFault("no number where one has to stand")),
-    }
-}
-
-/// Words as a command line has them.
-fn words_of(alloc: Global, text: &str) -> Result<Vec<String>, OutOfMemory> {
-    let mut words = Vec::new(alloc);
-    for word in text.split_whitespace() {
-        words.push(String::from_str(alloc, word)?)?;
-    }
-    Ok(words)
-}
-
-/// What the field of a word says.
-fn said<'a>(fields: &[Field<'a>], word: &str) -> Option<&'a str> {
-    match find(fields, word) {
-        Some(field) => Some(field.said),
-        None => None,
-    }
-}
-
-/// The text of the field of a word; empty where there is none.
-fn text_of<'f>(fields: &'f [Field<'_>], word: &str) -> &'f [u8] {
-    match find(fields, word) {
-        Some(field) => field.text.as_slice(),
-        None => &[],
-    }
 }
 
 /// Tells the status and the ending of a run, unless they begin with what is wanted.
@@ -117,14 +85,4 @@ fn tell_ending(
         Some(others) if others.starts_with(' ') => Ok(()),
         _ => tell("ends", wanted.as_bytes(), got.as_bytes(), told),
     }
-}
-
-/// Tells a difference, where there is one.
-fn tell(word: &str, wanted: &[u8], got: &[u8], told: &mut String) -> Result<(), OutOfMemory> {
-    if wanted == got {
-        return Ok(());
-    }
-    let wanted = str::from_utf8(wanted).unwrap_or("not UTF-8");
-    let got = str::from_utf8(got).unwrap_or("not UTF-8");
-    write!(told, " {word} wanted {wanted:?}, got {got:?};")
 }

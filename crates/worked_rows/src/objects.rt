@@ -1,11 +1,11 @@
 //! What a line of OPL tells, in words.
 
+use crate::form::RowFault;
 use opl_reader::{LineError, fault_text, read_line};
 use osm_elements::{Members, Object, ObjectKind, Refs, Tags};
 use osm_lattice::Loc;
 use std::alloc::{AllocError as OutOfMemory, Global};
 use std::fmt::Write;
-use worked_form::RowFault;
 
 /// Adds what is read of a line: an object in words, `nothing`, or its fault and where this stands.
 pub(crate) fn put_line(alloc: Global, line: &[u8], told: &mut String) -> Result<(), RowFault> {

@@ -1,10 +1,10 @@
 //! Lines of OPL, read and written again.
 
+use crate::form::RowFault;
 use opl_reader::read_line;
 use opl_writer::{put_node, put_relation, put_way};
 use osm_elements::Object;
 use std::alloc::{AllocError as OutOfMemory, Global};
-use worked_form::RowFault;
 
 /// Adds the lines of a text read and written again; those that tell no object are left out.
 pub(crate) fn put_rewritten(alloc: Global, text: &str, told: &mut String) -> Result<(), RowFault> {

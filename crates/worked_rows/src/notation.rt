@@ -1,9 +1,9 @@
 //! Decimals and strings as they are written.
 
+use crate::form::RowFault;
 use osm_elements::Text;
 use osm_notation::{put_decimal, written};
 use std::alloc::Global;
-use worked_form::RowFault;
 
 /// Adds the decimal of a number of units.
 pub(crate) fn put_printed(digits: &str, told: &mut String) -> Result<(), RowFault> {

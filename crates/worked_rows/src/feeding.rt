@@ -2,12 +2,13 @@
 
 ghost use Rattle.std.specs.Prelude.{◌<◌, ◌≤◌, ◌+◌, ◌^◌, length};
 
-use crate::telling::put_object;
+use crate::calls::Call;
+use crate::form::{RowFault, number};
+use crate::objects::put_object;
 use opl_reader::{FeedError, Lines};
 use osm_elements::Object;
 use std::alloc::{AllocError as OutOfMemory, Global};
 use std::fmt::Write;
-use worked_form::{Call, RowFault, number};
 
 /// The id of an object, whose kind doesn't matter.
 fn id_of(object: Option<Object>) -> Option<i64> {

@@ -1,10 +1,10 @@
 //! References and tags, which are held in few bytes.
 
+use crate::form::RowFault;
 use osm_elements::{Ref, Refs, Tags};
 use osm_lattice::Loc;
 use std::alloc::{AllocError as OutOfMemory, Global};
 use std::fmt::Write;
-use worked_form::RowFault;
 
 /// Adds the answer of a call on references or tags.
 pub(crate) fn answer(

@@ -1,5 +1,5 @@
 use Rattle.std.proofs.Common.{◌≡◌, ◌+◌, length}
-use Rattle.tests_opl.proofs.feeding.told_by.Given as goal
+use Rattle.worked_rows.proofs.feeding.told_by.Given as goal
 
 -- what was fed and what is left are the whole input
 abbrev pub invariant-loop-rest : goal.invariant-loop-rest

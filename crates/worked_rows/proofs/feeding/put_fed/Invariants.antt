@@ -1,5 +1,5 @@
 use Rattle.std.proofs.Common.{◌≤◌, ◌+◌, length}
-use Rattle.tests_opl.proofs.feeding.put_fed.Given as goal
+use Rattle.worked_rows.proofs.feeding.put_fed.Given as goal
 
 -- what was fed and what is left are at most the whole text
 abbrev pub invariant-loop-rest : goal.invariant-loop-rest

@@ -1,11 +1,12 @@
 //! The references of a long line, decimals, keys and points as they are read.
 
+use crate::calls::Call;
+use crate::form::RowFault;
 use opl_reader::{is_keys, read_decimal, read_keys, read_line};
 use osm_elements::Object;
 use osm_input::points::{PointsError, read_points};
 use std::alloc::Global;
 use std::fmt::Write;
-use worked_form::{Call, RowFault};
 
 /// Adds how many references are read of a way's line.
 pub(crate) fn put_count(alloc: Global, line: &[u8], told: &mut String) -> Result<(), RowFault> {

@@ -1,22 +1,12 @@
 //! What is told of rows: a line for each, which ends in `ok` or says what was wanted and what came.
 
-use crate::calls::{Call, tell_calls};
+use crate::calls::tell_calls;
 use crate::form::{Field, RowFault, add_line, find, find_text, first_word};
+use crate::running::tell_run;
 use std::alloc::{AllocError as OutOfMemory, Global};
 use std::fmt::Write;
 use std::io;
 use std::process::ExitCode;
-
-/// What a program makes of its rows.
-pub trait Rows {
-    /// Adds the answer of a call.
-    fn answer(alloc: Global, call: Call<'_>, told: &mut String) -> Result<(), RowFault>;
-
-    /// Adds where a run differs from what its row wants: nothing where it doesn't.
-    fn run(_: Global, _: &[Field<'_>], _: &mut String) -> Result<(), RowFault> {
-        Err(RowFault("no call"))
-    }
-}
 
 /// What came of the rows so far: the texts that have names, the lines to print, and how many rows went as wanted.
 #[derive(Drop)]
@@ -29,47 +19,39 @@ struct Told<'a> {
 
 /// Follows the rows of standard input. For each a line is printed, and last how many went as wanted, and how many didn't. The status
 /// is 1 where one didn't.
-pub fn follow_rows<R: Rows>(rt: HostRuntime) -> io::Result<ExitCode> {
+pub(crate) fn follow_rows(rt: HostRuntime) -> io::Result<ExitCode> {
     let rows = io::read_to_string(rt.alloc(), rt.stdin())?;
-    let (lines, all) = tell_all::<R>(rt.alloc(), &rows)?;
+    let (lines, all) = tell_all(rt.alloc(), &rows)?;
     print!(rt; "{lines}")?;
     Ok(ExitCode::from(u8::from(!all)))
 }
 
 /// What is printed of rows, and whether all went as wanted.
-fn tell_all<R: Rows>(alloc: Global, rows: &str) -> Result<(String, bool), OutOfMemory> {
+fn tell_all(alloc: Global, rows: &str) -> Result<(String, bool), OutOfMemory> {
     let mut told = Told {
         texts: Vec::new(alloc),
         lines: String::new(alloc),
         passed: 0,
         failed: 0,
     };
-    tell_rows::<R>(alloc, rows, &mut told)?;
+    tell_rows(alloc, rows, &mut told)?;
     let (passed, failed) = (told.passed, told.failed);
     write!(told.lines, "{passed} passed, {failed} failed\n")?;
     Ok((told.lines, failed == 0))
 }
 
 /// Follows each block.
-fn tell_rows<'a, R: Rows>(
-    alloc: Global,
-    rows: &'a str,
-    told: &mut Told<'a>,
-) -> Result<(), OutOfMemory> {
+fn tell_rows<'a>(alloc: Global, rows: &'a str, told: &mut Told<'a>) -> Result<(), OutOfMemory> {
     for block in rows.split("\n\n") {
-        tell_block::<R>(alloc, block, told)?;
+        tell_block(alloc, block, told)?;
     }
     Ok(())
 }
 
 /// Follows a block, and tells one that can't be followed.
-fn tell_block<'a, R: Rows>(
-    alloc: Global,
-    block: &'a str,
-    told: &mut Told<'a>,
-) -> Result<(), OutOfMemory> {
+fn tell_block<'a>(alloc: Global, block: &'a str, told: &mut Told<'a>) -> Result<(), OutOfMemory> {
     let mut fields = Vec::new(alloc);
-    match follow::<R>(alloc, block, &mut fields, told) {
+    match follow(alloc, block, &mut fields, told) {
         Ok(()) => Ok(()),
         Err(fault) => tell_fault(block, fault, told),
     }
@@ -85,7 +67,7 @@ fn tell_fault(block: &str, fault: RowFault, told: &mut Told<'_>) -> Result<(), O
 }
 
 /// Reads the fields of a block, and then keeps a text or follows a row.
-fn follow<'a, R: Rows>(
+fn follow<'a>(
     alloc: Global,
     block: &'a str,
     fields: &mut Vec<Field<'a>>,
@@ -98,7 +80,7 @@ fn follow<'a, R: Rows>(
         return Ok(());
     };
     if first.word == "row" {
-        return tell_row::<R>(alloc, first.said, fields, told);
+        return tell_row(alloc, first.said, fields, told);
     }
     if first.word != "text" || fields.len() > 1 {
         return Err(RowFault("no row, and no text alone"));
@@ -111,14 +93,14 @@ fn follow<'a, R: Rows>(
 }
 
 /// Makes what a row says, and tells how it went.
-fn tell_row<R: Rows>(
+fn tell_row(
     alloc: Global,
     name: &str,
     fields: &[Field<'_>],
     told: &mut Told<'_>,
 ) -> Result<(), RowFault> {
     let mut differences = String::new(alloc);
-    add_differences::<R>(alloc, fields, &mut differences)?;
+    add_differences(alloc, fields, &mut differences)?;
     told.lines.push_str(name)?;
     if differences.is_empty() {
         told.passed = told.passed.saturating_add(1);
@@ -133,20 +115,21 @@ fn tell_row<R: Rows>(
 }
 
 /// Adds where a row's run or its calls differ from what is wanted.
-fn add_differences<R: Rows>(
-    alloc: Global,
-    fields: &[Field<'_>],
-    told: &mut String,
-) -> Result<(), RowFault> {
+fn add_differences(alloc: Global, fields: &[Field<'_>], told: &mut String) -> Result<(), RowFault> {
     if find(fields, "words").is_some() {
-        R::run(alloc, fields, told)
+        tell_run(alloc, fields, told)
     } else {
-        tell_calls::<R>(alloc, fields, told)
+        tell_calls(alloc, fields, told)
     }
 }
 
 /// Tells a difference, where there is one.
-pub fn tell(word: &str, wanted: &[u8], got: &[u8], told: &mut String) -> Result<(), OutOfMemory> {
+pub(crate) fn tell(
+    word: &str,
+    wanted: &[u8],
+    got: &[u8],
+    told: &mut String,
+) -> Result<(), OutOfMemory> {
     if wanted == got {
         return Ok(());
     }

@@ -1,5 +1,0 @@
-//! Tests of the sample.
-#![tactic(auto)]
-
-#[cfg(test)]
-mod samples;
