@@ -53,7 +53,11 @@ impl Starts {
         ensures { self.new
             ≡ take (chunk + 1) self.old ++ map (λ start. start + 1) (drop (chunk + 1) self.old) }
     {
-        let end = end_of_block(chunk, self.within.len());
+        let chunks = self.within.len();
+        if chunk + 1 == chunks {
+            return;
+        }
+        let end = end_of_block(chunk, chunks);
         raise_each(&mut self.within, chunk + 1, end);
         let blocks = self.blocks.len();
         raise_each(&mut self.blocks, chunk / BLOCK, blocks);
@@ -67,7 +71,11 @@ impl Starts {
         ensures { self.new
             ≡ take (chunk + 1) self.old ++ map (λ start. start - 1) (drop (chunk + 1) self.old) }
     {
-        let end = end_of_block(chunk, self.within.len());
+        let chunks = self.within.len();
+        if chunk + 1 == chunks {
+            return;
+        }
+        let end = end_of_block(chunk, chunks);
         lower_each(&mut self.within, chunk + 1, end);
         let blocks = self.blocks.len();
         lower_each(&mut self.blocks, chunk / BLOCK, blocks);

@@ -1,7 +1,7 @@
-use Rattle.std.proofs.Common.{arith, drop, length, map, take, ◌++◌, ◌+◌, ◌-◌, ◌/◌, ◌∷◌, ◌≡◌}
+use Rattle.std.proofs.Common.{arith, drop, length, map, take, ◌++◌, ◌+◌, ◌-◌, ◌/◌, ◌∷◌, ◌≡◌, ◌≤◌}
 use Rattle.std.proofs.Math.ListN.{get_or}
-use Rattle.std.proofs.Math.Path.{ap, subst, ◌∙◌}
-use Rattle.std.proofs.lemmas.List.{with_items_is}
+use Rattle.std.proofs.Math.Path.{ap, subst, sym, ◌∙◌}
+use Rattle.std.proofs.lemmas.List.{append-nil, drop_all, take_all, with_items_is}
 use Rattle.std.specs.Vec.{with_items}
 use Rattle.chunked_list.specs.Blocks.{AreBlocks, AreChanged, IsEndOfBlock, sums_from}
 use Rattle.chunked_list.proofs.Summed.{base_some, blocks_changed, blocks_some, long, of_both, sums_changed, within_some}
@@ -10,7 +10,7 @@ use Rattle.chunked_list.proofs.starts.Starts.lower.Goals as goal
 pub end_of_block-end-requires : goal.end_of_block-end-requires
 end_of_block-end-requires c =
     let size = long c.self.inside.blocks.items c.self.inside.within.items c.args.self.now c.self.view_is in
-    let inside = c.requires.inside in let len = c.len.ensures in let all = c.self.inside.within.ok in omega arith
+    let inside = c.requires.inside in let len = c.len-chunks.ensures in let all = c.self.inside.within.ok in omega arith
 
 pub lower_each-requires-clause-order : goal.lower_each-requires-clause-order
 lower_each-requires-clause-order c = let behind = c.end_of_block-end.ensures.behind in omega arith
@@ -18,7 +18,7 @@ lower_each-requires-clause-order c = let behind = c.end_of_block-end.ensures.beh
 pub lower_each-requires-clause-some : goal.lower_each-requires-clause-some
 lower_each-requires-clause-some c =
     let bs = c.self.inside.blocks.items in let ws = c.self.inside.within.items in
-    let all : c.len.result ≡ length ws = (let len = c.len.ensures in let ok = c.self.inside.within.ok in omega arith) in
+    let all : c.len-chunks.result ≡ length ws = (let len = c.len-chunks.ensures in let ok = c.self.inside.within.ok in omega arith) in
     let ends = subst (λ n. IsEndOfBlock c.args.chunk n c.end_of_block-end.result) all c.end_of_block-end.ensures in
     λ k up below. let some = within_some bs ws c.args.self.now c.self.view_is c.self.invariant c.args.chunk c.end_of_block-end.result ends c.requires.some k (omega arith) below in
     let same = ap (λ xs. get_or xs k 0) c.deref_mut.ensures.value in omega arith
@@ -31,7 +31,7 @@ lower_each-requires-2-clause-order c =
 pub lower_each-requires-2-clause-some : goal.lower_each-requires-2-clause-some
 lower_each-requires-2-clause-some c =
     let bs = c.self.inside.blocks.items in let ws = c.self.inside.within.items in
-    let all : c.len.result ≡ length ws = (let len = c.len.ensures in let ok = c.self.inside.within.ok in omega arith) in
+    let all : c.len-chunks.result ≡ length ws = (let len = c.len-chunks.ensures in let ok = c.self.inside.within.ok in omega arith) in
     let ends = subst (λ n. IsEndOfBlock c.args.chunk n c.end_of_block-end.result) all c.end_of_block-end.ensures in
     λ j up below. let some = blocks_some bs ws c.args.self.now c.self.view_is c.self.invariant c.args.chunk c.end_of_block-end.result ends c.requires.some j up (let len = c.len-blocks.ensures in let all = c.self.inside.blocks.ok in omega arith) in
     let same = ap (λ xs. get_or xs j 0) c.deref_mut-2.ensures.value in omega arith
@@ -39,7 +39,7 @@ lower_each-requires-2-clause-some c =
 pub invariant_of-self : goal.invariant_of-self
 invariant_of-self c =
     let bs = c.self.inside.blocks.items in let ws = c.self.inside.within.items in
-    let all : c.len.result ≡ length ws = (let len = c.len.ensures in let ok = c.self.inside.within.ok in omega arith) in
+    let all : c.len-chunks.result ≡ length ws = (let len = c.len-chunks.ensures in let ok = c.self.inside.within.ok in omega arith) in
     let ends = subst (λ n. IsEndOfBlock c.args.chunk n c.end_of_block-end.result) all c.end_of_block-end.ensures in
     let ss = c.args.self.now in
     let new_ws = c.lower_each.new.numbers in let new_bs = c.lower_each-2.new.numbers in
@@ -56,7 +56,7 @@ invariant_of-self c =
 pub returns : goal.returns
 returns c =
     let bs = c.self.inside.blocks.items in let ws = c.self.inside.within.items in
-    let all : c.len.result ≡ length ws = (let len = c.len.ensures in let ok = c.self.inside.within.ok in omega arith) in
+    let all : c.len-chunks.result ≡ length ws = (let len = c.len-chunks.ensures in let ok = c.self.inside.within.ok in omega arith) in
     let ends = subst (λ n. IsEndOfBlock c.args.chunk n c.end_of_block-end.result) all c.end_of_block-end.ensures in
     let ss = c.args.self.now in
     let new_ws = c.lower_each.new.numbers in let new_bs = c.lower_each-2.new.numbers in
@@ -69,3 +69,18 @@ returns c =
     (λ k behind below. let some = within_some bs ws ss c.self.view_is c.self.invariant c.args.chunk c.end_of_block-end.result ends c.requires.some k behind below in omega arith)
     (λ k past inside. let some = base_some bs ws ss c.self.view_is c.self.invariant c.args.chunk c.end_of_block-end.result ends c.requires.some k past inside in omega arith)
     ∙ ap (λ xs. take (c.args.chunk + 1) xs ++ map (λ start. start - 1) (drop (c.args.chunk + 1) xs)) c.self.view_is
+
+pub overflow_add-chunk : goal.overflow_add-chunk
+overflow_add-chunk c =
+    let size = long c.self.inside.blocks.items c.self.inside.within.items c.args.self.now c.self.view_is in
+    let inside = c.requires.inside in let len = c.len-chunks.ensures in let fits = c.len-chunks.type_inv in let ok = c.self.inside.within.ok in omega arith
+
+pub returns-then-chunk-chunks : goal.returns-then-chunk-chunks
+returns-then-chunk-chunks c =
+    let ss = c.args.self.now in let next = c.args.chunk + 1 in
+    let size = long c.self.inside.blocks.items c.self.inside.within.items ss c.self.view_is in
+    let last = c.if-chunk-chunks.true in let len = c.len-chunks.ensures in let ok = c.self.inside.within.ok in
+    let all : length ss ≤ next = omega arith in
+    let whole : ss ≡ take next ss ++ map (λ start. start - 1) (drop next ss) =
+    sym (ap (λ xs. take next ss ++ map (λ start. start - 1) xs) (drop_all next ss all) ∙ append-nil (take next ss) ∙ take_all next ss all) in
+    whole
