@@ -1,9 +1,9 @@
 //! The limits of reading: the most bytes of an input, and those of a line.
 
 use opl_reader::{FaultKind, LineFault};
-use osm_cli::{InputFault, ReadError, read_all};
 use osm_elements::ObjectKind;
 use osm_host::Host;
+use osm_input::{InputFault, ReadError, read_all};
 use std::alloc::{AllocError as OutOfMemory, Global};
 use std::test::Fail;
 use tests_host::MemoryHost;
