@@ -71,7 +71,9 @@ fn sloping_edges<'a>(alloc: Global, rings: &'a [Ring]) -> Result<Vec<RingEdge<'a
     // Rings are mostly in order of their least nodes. So if they are small, both lists are nearly in order.
     let count = edge_count(rings);
     let mut up = Vec::with_capacity(alloc, count)?;
-    let mut down = Vec::with_capacity(alloc, count / 2)?;
+    // Of most rings about half run down. With a little more room the list doesn't double.
+    let room = (count / 2).saturating_add(count / 16);
+    let mut down = Vec::with_capacity(alloc, room)?;
     for (place, ring) in rings.iter().enumerate() {
         push_ring(&mut up, &mut down, ring.as_slice(), place)?;
     }
