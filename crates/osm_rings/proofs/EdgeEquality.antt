@@ -14,6 +14,8 @@ use Rattle.osm_geom.specs.declared.edge.Carrier.TheVariants.{Horizontal, OfSeg, 
 use Rattle.osm_geom.specs.declared.edge.Edge.{Edge}
 use Rattle.osm_lattice.proofs.LatticeKit.{seg_total, seg_same}
 use Rattle.osm_geom.proofs.GeometryKit.{edge-from-fields, point_same, point_total}
+use Rattle.osm_rings.specs.Packed.{IsPackedAs}
+use Rattle.osm_rings.specs.declared.packed.Packed.{Packed}
 
 abbrev pub same_carrier : Carrier → Carrier → Bool
 same_carrier (OfSeg s) (OfSeg t) = is_eq (seg_cmp s t)
@@ -36,6 +38,10 @@ carrier-own : (c : Carrier) → same_carrier c c ≡ true
 carrier-own (OfSeg s) = ap is_eq (tied_itself seg_total s)
 carrier-own (Vertical c) = int_eq-same c c refl
 carrier-own (Horizontal c) = int_eq-same c c refl
+
+-- edges that are packed alike are one
+pub same-packed : (e f : Edge) (p : Packed) → IsPackedAs e p → IsPackedAs f p → e ≡ f
+same-packed e f p a b = edge-from-fields e f (a.from ∙ sym b.from) (a.to ∙ sym b.to) (a.carrier ∙ sym b.carrier)
 
 abbrev pub same_exact : Edge → Edge → Bool
 same_exact e f = is_eq (point_cmp e.from f.from) && (is_eq (point_cmp e.to f.to) && same_carrier e.carrier f.carrier)

@@ -3,6 +3,8 @@ use Rattle.std.proofs.Common.{◌≡◌, ℕ, ◌+◌, ◌<◌, ◌≤◌, List,
 use Rattle.std.specs.List.{concat}
 use Rattle.std.proofs.Math.Seq.{drop-append_seam, take-append_seam}
 use Rattle.std.proofs.lemmas.List.{drop_more, get_or-map, length-append, length-map, map-append, take_more}
+use Rattle.lists.proofs.ListsKit.{at-in, in-map}
+use Rattle.lists.specs.Member.{In}
 use Rattle.orbits.specs.Along.{StandAlong}
 use Rattle.osm_geom.specs.declared.edge.Edge.{Edge}
 use Rattle.osm_rings.specs.Pieces.{edges_at}
@@ -26,6 +28,10 @@ module _ (ws : List (List ℕ)) (places sizes : List ℕ) (along : StandAlong ws
     rings-more es rings so_far =
         ap (λ rs. rs ++ edges_at es walk ∷ []) so_far
         ∙ (sym (map-append (edges_at es) (take k ws) (walk ∷ [])) ∙ ap (map (edges_at es)) (sym (take_more ws k [] in-walks)))
+
+    -- its ring is among those of the walks
+    pub ring-there : (es : List Edge) → In (edges_at es walk) (map (edges_at es) ws)
+    ring-there es = in-map (edges_at es) ws walk (at-in ws k [] in-walks)
 
     module _ (left : List ℕ) (left_is : left ≡ concat (drop k ws)) where
       parted : left ≡ walk ++ concat (drop (k + 1) ws)

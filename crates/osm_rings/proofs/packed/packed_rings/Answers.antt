@@ -1,11 +1,10 @@
 -- One more walk is taken off the places left: it is a ring.
 use Rattle.std.proofs.Common.{[], All, ap, arith, get_or, length, map, subst, sym, take, ◌++◌, ◌<◌, ◌∷◌, ◌≡◌, ◌∙◌}
 use Rattle.std.proofs.lemmas.List.{take_all}
-use Rattle.lists.proofs.ListsKit.{at-in, in-map}
 use Rattle.osm_rings.specs.Pieces.{edges_at}
 use Rattle.osm_rings.specs.Ring.{IsRing}
 use Rattle.osm_rings.specs.RingList.{AreRingsOf}
-use Rattle.osm_rings.proofs.WalkedRings.{as-many, in-walks, rest-is, rings-more, walk-fits, walk-is}
+use Rattle.osm_rings.proofs.WalkedRings.{as-many, in-walks, rest-is, ring-there, rings-more, walk-fits, walk-is}
 use Rattle.osm_rings.proofs.packed.packed_rings.Goals as goal
 
 pub loop-size-init : goal.loop-size-init
@@ -29,7 +28,7 @@ of_edges-requires c =
     let q = c.requires in let es = q.0 in let are = q.2 in let k = c.loop-size.size-index in let places = c.args.places.now in let sizes = c.args.sizes.now in
     let walk = get_or are.walks k [] in
     let front : c.split_at.result.0.now ≡ walk = c.split_at.ensures.front ∙ walk-is are.walks places sizes are.along k c.loop-size-test.true c.loop-size.left.now (c.loop-size.invariant es q.1 are).0 in
-    let there = in-map (edges_at es) are.walks walk (at-in are.walks k [] (in-walks are.walks places sizes are.along k c.loop-size-test.true)) in
+    let there = ring-there are.walks places sizes are.along k c.loop-size-test.true es in
     subst IsRing (sym (c.in_ok-unpacked_at.ensures es q.1 ∙ ap (edges_at es) front)) (are.rings.ring (edges_at es walk) there)
 
 pub loop-size-preserved : goal.loop-size-preserved

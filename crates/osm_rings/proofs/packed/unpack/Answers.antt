@@ -1,7 +1,6 @@
--- The same carrier and the same ends.
-use Rattle.std.proofs.Common.{sym, ◌∙◌}
-use Rattle.osm_geom.proofs.GeometryKit.{edge-from-fields}
+-- It is packed in the same way.
+use Rattle.osm_rings.proofs.EdgeEquality.{same-packed}
 use Rattle.osm_rings.proofs.packed.unpack.Goals as goal
 
 pub returns : goal.returns
-returns c e is = edge-from-fields c.of.result e (c.of.ensures.from ∙ sym is.from) (c.of.ensures.to ∙ sym is.to) (c.of.ensures.carrier ∙ sym is.carrier)
+returns c e is = same-packed c.of.result e c.args.packed (record { carrier = c.of.ensures.carrier; from = c.of.ensures.from; to = c.of.ensures.to }) is
