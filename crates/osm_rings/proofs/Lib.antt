@@ -1,3 +1,4 @@
+mod AddedRounds
 mod AlongPieces
 mod ApartEdges
 mod Clockwise
@@ -16,7 +17,6 @@ mod PlaneNumbers
 pub mod PlaneRings
 mod RingListLifts
 mod RingLists
-mod Rounds
 mod Starts
 mod Succeed
 mod TurnedFrom

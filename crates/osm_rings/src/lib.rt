@@ -9,6 +9,7 @@ mod one_list;
 mod packed;
 mod ring;
 mod ring_list;
+mod rounds;
 mod successors;
 
 pub use laws::{ring_list_of_edges_exists, rings_do_not_cross, successors_are_one_to_one};

@@ -1,6 +1,6 @@
 use Rattle.std.proofs.Common.{◌≤◌, ◌++◌, ◌-◌, drop, length}
 use Rattle.std.specs.List.Sorted.{IsPermutation}
-use Rattle.osm_rings.proofs.departures.rounds.Given as goal
+use Rattle.osm_rings.proofs.rounds.rounds.Given as goal
 
 -- those before the place are put in order, and those from there on are left
 abbrev pub invariant-loop-from : goal.invariant-loop-from

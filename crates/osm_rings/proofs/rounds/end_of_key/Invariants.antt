@@ -1,5 +1,5 @@
 use Rattle.std.proofs.Common.{◌<◌, ◌≤◌, ◌-◌, length}
-use Rattle.osm_rings.proofs.departures.end_of_key.Given as goal
+use Rattle.osm_rings.proofs.rounds.end_of_key.Given as goal
 
 abbrev pub invariant-loop-end : goal.invariant-loop-end
 invariant-loop-end l = (l.from < l.end) × (l.end ≤ length l.departures)

@@ -2,8 +2,8 @@
 use Rattle.std.proofs.Common.{arith, drop}
 use Rattle.std.specs.List.{slice_range}
 use Rattle.std.proofs.lemmas.List.Folds.{drop_split}
-use Rattle.osm_rings.proofs.Rounds.{one_round}
-use Rattle.osm_rings.proofs.departures.rounds.Goals as goal
+use Rattle.osm_rings.proofs.AddedRounds.{one_round}
+use Rattle.osm_rings.proofs.rounds.rounds.Goals as goal
 
 pub loop-from-preserved : goal.loop-from-preserved
 loop-from-preserved c =

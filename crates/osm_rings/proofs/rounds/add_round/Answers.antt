@@ -4,8 +4,8 @@ use Rattle.std.specs.Option.{unwrap_or}
 use Rattle.std.proofs.lemmas.List.{take_at}
 use Rattle.std.proofs.lemmas.List.Sorted.{length_permutation}
 use Rattle.std.proofs.lemmas.Result.{on_ok_weaker}
-use Rattle.osm_rings.proofs.Rounds.{added}
-use Rattle.osm_rings.proofs.departures.add_round.Goals as goal
+use Rattle.osm_rings.proofs.AddedRounds.{added}
+use Rattle.osm_rings.proofs.rounds.add_round.Goals as goal
 
 pub returns : goal.returns
 returns c =
