@@ -1,10 +1,11 @@
 -- One more object, in the row of nodes or among the others.
-use Rattle.std.proofs.Common.{◌≡◌, ◌∙◌, ◌+◌, ℕ, cond, List, [], ◌∷◌, ◌++◌, refl, ap, None, Some, is_some, length, arith}
+use Rattle.std.proofs.Common.{◌≡◌, ◌∙◌, ◌+◌, ℕ, cond, List, [], ◌∷◌, ◌++◌, refl, ap, None, Some, is_some, length, arith, true, false}
+use Rattle.lists.proofs.ListsKit.{none_from}
 use Rattle.osm_elements.specs.declared.object.ObjectRef.{ObjectRef}
 use Rattle.osm_elements.specs.declared.object.Object.{Object}
 use Rattle.osm_objects.specs.declared.held.Placed.{Placed}
 use Rattle.osm_objects.specs.declared.plain.PlainNode.{PlainNode}
-use Rattle.osm_objects.specs.Object.{ref_of, is_at}
+use Rattle.osm_objects.specs.Object.{is_live, ref_of, is_at}
 use Rattle.osm_objects.specs.Objects.{object_at, is_duplicate, AreApart}
 use Rattle.osm_objects.specs.Held.{object_from, others_from}
 use Rattle.osm_objects.specs.Plain.{node_from, nodes_from}
@@ -15,6 +16,10 @@ use Rattle.osm_objects.proofs.MergedLemmas.{find-append_none, plain_last, plain_
 
 pub dup_from : (o : Object) (of : ObjectRef) (objects : List Object) → At o of → is_duplicate objects o ≡ is_some (object_at objects of)
 dup_from o of objects at = rw (at.live, at.is) refl
+
+-- a live object that isn't there already is absent
+pub absent_from : (o : Object) (objects : List Object) → is_live o ≡ true → is_duplicate objects o ≡ false → object_at objects (ref_of o) ≡ None
+absent_from o objects live fresh = none_from (object_at objects (ref_of o)) (rw live at fresh)
 
 -- an object of another reference comes last
 pub one_more_apart : (objects : List Object) (o : Object) → AreApart objects → object_at objects (ref_of o) ≡ None → AreApart (objects ++ o ∷ [])

@@ -1,5 +1,5 @@
 -- Ids of coast ways.
-use Rattle.std.proofs.Common.{◌≡◌, ◌∙◌, Bool, true, false, cond, List, [], ◌∷◌, refl, sym, None, filter, map, int_eq, true≢false}
+use Rattle.std.proofs.Common.{◌≡◌, Bool, true, false, cond, List, [], ◌∷◌, refl, sym, None, filter, map, int_eq, true≢false}
 use Rattle.std.specs.List.{AllByRecursion, IsDistinct}
 use Rattle.std.proofs.lemmas.Map.Keys.{IsDistinct-cons}
 use Rattle.osm_elements.specs.declared.object.ObjectKind.TheVariants.{Way}

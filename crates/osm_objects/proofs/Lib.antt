@@ -3,6 +3,7 @@ mod ChoiceLemmas
 mod StoreLemmas
 mod ApartLemmas
 mod FoundLemmas
+mod ListedLemmas
 mod MergedLemmas
 mod RisingLemmas
 mod OthersLemmas

@@ -11,7 +11,7 @@ use Rattle.osm_elements.specs.contracts.object.ObjectKindPartialEq.TheImpl as ki
 use Rattle.osm_objects.specs.declared.choice.Choice.{Choice}
 use Rattle.osm_objects.specs.declared.held.Placed.{Placed}
 use Rattle.osm_objects.specs.declared.plain.PlainNode.{PlainNode}
-use Rattle.osm_objects.specs.Object.{is_live, kind_of, id_of, ref_of, same_kind, is_at}
+use Rattle.osm_objects.specs.Object.{is_live, id_of, ref_of, same_kind, is_at}
 use Rattle.osm_objects.specs.Objects.{object_at, AreApart}
 use Rattle.osm_objects.specs.Candidates.{is_candidate, may_have_area, candidates}
 use Rattle.osm_objects.specs.CoastWays.{is_coast_way, coast_ways}

@@ -1,5 +1,5 @@
 -- A look-up among the others is a look-up in the list of their objects.
-use Rattle.std.proofs.Common.{◌≡◌, ◌∙◌, Bool, true, false, cond, ◌&&◌, List, [], ◌∷◌, ◌++◌, refl, sym, ap, map, ℤ, Option, None, Some, option_map, int_eq, if◌then◌else◌}
+use Rattle.std.proofs.Common.{◌≡◌, Bool, true, false, cond, ◌&&◌, List, [], ◌∷◌, ◌++◌, refl, ap, map, ℤ, None, Some, option_map, int_eq, if◌then◌else◌}
 use Rattle.std.specs.List.{find}
 use Rattle.osm_elements.specs.declared.object.ObjectKind.{ObjectKind}
 use Rattle.osm_elements.specs.declared.object.ObjectKind.TheVariants.{Node, Way, Relation}
@@ -10,7 +10,7 @@ use Rattle.osm_elements.specs.contracts.object.ObjectKindPartialEq.TheImpl as ki
 use Rattle.osm_objects.specs.declared.held.Held.{Held}
 use Rattle.osm_objects.specs.declared.held.Placed.{Placed}
 use Rattle.osm_objects.specs.declared.held.Held.TheVariants as held
-use Rattle.osm_objects.specs.Object.{kind_of, id_of, is_live, ref_of, same_kind, is_at}
+use Rattle.osm_objects.specs.Object.{id_of, is_live, ref_of, same_kind}
 use Rattle.osm_objects.specs.Objects.{object_at, with_object}
 use Rattle.osm_objects.specs.Held.{object_from, live_ref}
 use Rattle.osm_objects.specs.Others.{object_held, is_held_at}

@@ -1,9 +1,9 @@
 //! The store of objects.
 
-ghost use Rattle.std.specs.Prelude.{◌≡◌, ◌++◌, ◌∷◌, [], true, All, Contains, IsTrue, IfOk, OnOk, OnErr, IfErr, IsSome, Some, option_map, false};
+ghost use Rattle.std.specs.Prelude.{◌≡◌, ◌++◌, ◌∷◌, [], true, All, Contains, IsTrue, IfOk, OnOk, OnErr, IfErr, IfSome, IsSome, None, Some, option_map, false};
 ghost use Rattle.std.specs.List.{IsDistinct};
 ghost use Rattle.std.specs.Ordering.{int_eq};
-ghost use Rattle.osm_objects.specs.Object.{is_live, ref_of};
+ghost use Rattle.osm_objects.specs.Object.{id_of, is_live, ref_of};
 ghost use Rattle.osm_objects.specs.Objects.{object_at, location_of, place_of, node_of, way_of, relation_of, with_object, is_duplicate, AreApart};
 ghost use Rattle.osm_objects.specs.declared.choice.Choice.{Choice};
 ghost use Rattle.osm_objects.specs.Candidates.{area_tags, is_candidate, candidates, without_lists};
@@ -27,6 +27,7 @@ use osm_elements::{Object, ObjectKind, ObjectRef, Ref, Tags};
 use osm_lattice::Loc;
 use std::alloc::{AllocError as OutOfMemory, Global};
 use std::marker::Model;
+use std::mem;
 
 /// The live objects of an input. Contracts see it as their list, in the order in which they were added.
 #[derive(Drop)]
@@ -114,8 +115,31 @@ impl Store {
         ensures unchanged { OnErr result (self.new ≡ self.old) }
         ensures refusal { IfErr result (Refuses self.old object) }
     {
-        let Some(of) = live_ref(&object) else {
-            return Ok(());
+        match self.add_lent(&object) {
+            Ok(Some(id)) => self.add_other(id, object)?,
+            Ok(None) => mem::drop(object),
+            Err(error) => {
+                mem::drop(object);
+                return Err(error);
+            }
+        }
+        Ok(())
+    }
+
+    /// Adds an object, if nothing of it has to be kept but a plain node. Of any other it gives the id.
+    ///
+    /// In this case the store is unchanged, as after an `Err`.
+    fn add_lent(&mut self, object: &Object) -> Result<Option<i64>, AddError>
+        ensures added { IfOk result (λ left. left ≡ None → self.new ≡ with_object self.old object.now) }
+        ensures left { IfOk result (λ left. IfSome left (λ _. self.new ≡ self.old)) }
+        ensures live { IfOk result (λ left. IfSome left (λ _. is_live object.now ≡ true)) }
+        ensures id { IfOk result (λ left. IfSome left (λ id. id ≡ id_of object.now)) }
+        ensures fresh { OnOk result (is_duplicate self.old object.now ≡ false) }
+        ensures unchanged { OnErr result (self.new ≡ self.old) }
+        ensures refusal { IfErr result (Refuses self.old object.now) }
+    {
+        let Some(of) = live_ref(object) else {
+            return Ok(None);
         };
         if self.find(of).is_held() {
             return Err(AddError::Duplicate {
@@ -123,14 +147,41 @@ impl Store {
                 id: of.id,
             });
         }
-        if let Some(node) = plain_node(&object) {
-            if is_above(self.nodes.as_slice(), &node) {
-                push_last(&mut self.nodes, node)?;
-                self.since += 1;
-                return Ok(());
-            }
+        if self.add_plain(object)? {
+            return Ok(None);
         }
-        let placed = Placed::new(*self.nodes.allocator(), of.id, self.since, object)?;
+        Ok(Some(of.id))
+    }
+
+    /// Adds a live object whose kind and id aren't held to the plain nodes, and says so, if it is one and their ids still rise.
+    ///
+    /// Otherwise, or after an `Err`, the store is unchanged.
+    fn add_plain(&mut self, object: &Object) -> Result<bool, OutOfMemory>
+        requires { object_at self.old (ref_of object.now) ≡ None }
+        ensures added { IfOk result (λ is. is ≡ true → self.new ≡ self.old ++ object.now ∷ []) }
+        ensures as_before { IfOk result (λ is. is ≡ false → self.new ≡ self.old) }
+        ensures unchanged { OnErr result (self.new ≡ self.old) }
+    {
+        let Some(node) = plain_node(object) else {
+            return Ok(false);
+        };
+        if !is_above(self.nodes.as_slice(), &node) {
+            return Ok(false);
+        }
+        push_last(&mut self.nodes, node)?;
+        self.since += 1;
+        Ok(true)
+    }
+
+    /// Adds a live object whose kind and id aren't held to the others. After an `Err` the store is unchanged.
+    fn add_other(&mut self, id: i64, object: Object) -> Result<(), OutOfMemory>
+        requires live { is_live object ≡ true }
+        requires id { id ≡ id_of object }
+        requires fresh { is_duplicate self.old object ≡ false }
+        ensures added { OnOk result (self.new ≡ self.old ++ object ∷ []) }
+        ensures unchanged { OnErr result (self.new ≡ self.old) }
+    {
+        let placed = Placed::new(*self.nodes.allocator(), id, self.since, object)?;
         self.others.push(placed)?;
         self.since = 0;
         Ok(())
@@ -218,7 +269,6 @@ impl Store {
     /// They are closed ways that are areas by the choice, and relations tagged `type=multipolygon` or `type=boundary`
     /// (OpenStreetMap wiki, Relation:multipolygon). An object whose area would have no tag is among them only if the choice
     /// keeps those.
-    #[tactic(auto, using(crate::proofs::LookupLemmas::candidates_others))]
     pub fn candidates(&self, alloc: Global, choice: &Choice) -> Result<Vec<ObjectRef>, OutOfMemory>
         ensures list { IfOk result (λ list. list.items ≡ candidates choice.now self.now) }
         ensures held { IfOk result (λ list. All (λ of. IsSome (object_at self.now of)) list.items) }
@@ -252,7 +302,6 @@ impl Store {
     }
 
     /// The ids of the ways tagged `natural=coastline`, in input order.
-    #[tactic(auto, using(crate::proofs::LookupLemmas::coast_ways_others))]
     pub fn coast_ways(&self, alloc: Global) -> Result<Vec<i64>, OutOfMemory>
         ensures list { IfOk result (λ list. list.items ≡ coast_ways self.now) }
         ensures distinct { IsDistinct int_eq (coast_ways self.now) }

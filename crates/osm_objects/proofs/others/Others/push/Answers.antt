@@ -1,11 +1,10 @@
 -- The last object stands where it is told to stand; if memory is wanting for that, nothing is told.
-use Rattle.std.proofs.Common.{◌≡◌, ◌∙◌, List, None, Some, ap, length, rules, subst, sym, ℕ}
+use Rattle.std.proofs.Common.{◌≡◌, ◌∙◌, None, Some, ap, length, rules, subst, sym, ℕ}
 use Rattle.std.specs.BTreeMap.{Updates}
 use Rattle.std.specs.List.{find}
 use Rattle.osm_elements.specs.declared.object.ObjectRef.{ObjectRef}
-use Rattle.osm_objects.specs.declared.held.Placed.{Placed}
 use Rattle.osm_objects.specs.Others.{is_held_at, ref_cmp, ref_held}
-use Rattle.osm_objects.proofs.OthersLemmas.{AreKept, kept_same, kept_after}
+use Rattle.osm_objects.proofs.OthersLemmas.{kept_same, kept_after}
 use Rattle.osm_objects.proofs.others.Others.push.Goals as goal
 
 pub invariant_of-self-in-Ok : goal.invariant_of-self-in-Ok
