@@ -15,6 +15,7 @@ use Rattle.osm_input.specs.Input.{AreGood, IsBadPlace}
 use Rattle.osm_input.specs.Keeps.{KeepsNames}
 use Rattle.osm_input.specs.Lines.{lines_begun}
 use Rattle.osm_input.specs.LineSteps.{HasReadLines, IsRefusedBy, ReadsAll}
+use Rattle.osm_input.specs.PieceSteps.{HasTakenAll}
 use Rattle.osm_input.specs.Reading.{HasReachedEnd, IsAnswerOfReading, Took, Reads, ReadsOnce}
 use Rattle.osm_input.specs.Shown.{IsShownLast}
 use Rattle.osm_input.proofs.Begun.{begun_whole, fewer_before}
@@ -90,29 +91,11 @@ module _ (limit longest : ℕ) (before middle : Outside) (r : Reader) (objects :
         subst (λ (o : Option (List ℕ)). IfSome o (λ left. left ≡ []))
         (still_left before middle t.bytes t.are now buffer count left counted none) nothing
 
-    took : (result : Result (List Object) ReadError) → IsAnswerOfReading limit longest t.bytes now result → Took limit longest before now result
-    took result answer =
-        let are = at_end before middle t.bytes t.are now buffer count left counted none in
-        record { taken = t.bytes; left = are.left; counted = are.counted; answer = answer }
-
-    pub end_reads : (result : Result (List Object) ReadError) → ReadsAll longest t.bytes result → Reads limit longest before now result
-    end_reads (Ok all) read = let size = t.size in took (Ok all) (has_ended, (omega arith, read.0, read.1))
-    end_reads (Err (BadInput line fault)) read =
+    pub whole_taken : HasTakenAll limit longest before now r objects
+    whole_taken =
         let size = t.size in
-        took (Err (BadInput line fault)) (
-          inr (has_ended, omega arith, read.0),
-          subst (λ (zs : List ℕ). IsShownLast longest zs line) (append-nil t.bytes) (shown_last longest t.bytes [] line read.1 (omega arith)),
-        )
-    end_reads (Err (TooMuchInput most)) read = absurd read
-    end_reads (Err ReadFault) read = absurd read
-    end_reads (Err OutOfMemory) read = tt
-
-    pub end_at_once : (result : Result (List Object) ReadError) → ReadsAll longest t.bytes result → now.read_faults ≡ before.read_faults → ReadsOnce before now result
-    end_at_once (Ok all) read same = same
-    end_at_once (Err (BadInput line fault)) read same = same
-    end_at_once (Err (TooMuchInput most)) read same = absurd read
-    end_at_once (Err ReadFault) read same = absurd read
-    end_at_once (Err OutOfMemory) read same = same
+        let are = at_end before middle t.bytes t.are now buffer count left counted none in
+        record { bytes = t.bytes; holds = t.holds; size = omega arith; left = are.left; counted = are.counted; ended = has_ended }
 
   -- ---- a piece was taken
 
@@ -188,3 +171,27 @@ module _ (limit longest : ℕ) (before middle : Outside) (r : Reader) (objects :
             size = omega arith;
             are = are_taken;
           }
+
+-- ---- what is answered at the end
+
+module _ (limit longest : ℕ) (before now : Outside) (r : Reader) (objects : List Object) (t : HasTakenAll limit longest before now r objects) where
+  took_all : (result : Result (List Object) ReadError) → IsAnswerOfReading limit longest t.bytes now result → Took limit longest before now result
+  took_all result answer = record { taken = t.bytes; left = t.left; counted = t.counted; answer = answer }
+
+  pub end_reads : (result : Result (List Object) ReadError) → ReadsAll longest t.bytes result → Reads limit longest before now result
+  end_reads (Ok all) read = took_all (Ok all) (t.ended, (t.size, read.0, read.1))
+  end_reads (Err (BadInput line fault)) read =
+      took_all (Err (BadInput line fault)) (
+        inr (t.ended, t.size, read.0),
+        subst (λ (zs : List ℕ). IsShownLast longest zs line) (append-nil t.bytes) (shown_last longest t.bytes [] line read.1 (omega arith)),
+      )
+  end_reads (Err (TooMuchInput most)) read = absurd read
+  end_reads (Err ReadFault) read = absurd read
+  end_reads (Err OutOfMemory) read = tt
+
+pub end_at_once : (longest : ℕ) (bytes : List ℕ) (before now : Outside) (result : Result (List Object) ReadError) → ReadsAll longest bytes result → now.read_faults ≡ before.read_faults → ReadsOnce before now result
+end_at_once longest bytes before now (Ok all) read same = same
+end_at_once longest bytes before now (Err (BadInput line fault)) read same = same
+end_at_once longest bytes before now (Err (TooMuchInput most)) read same = absurd read
+end_at_once longest bytes before now (Err ReadFault) read same = absurd read
+end_at_once longest bytes before now (Err OutOfMemory) read same = same

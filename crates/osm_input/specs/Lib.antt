@@ -3,6 +3,7 @@ pub mod Keeps
 pub mod Laws
 pub mod LineSteps
 pub mod Lines
+pub mod PieceSteps
 pub mod PointLines
 pub mod ReadFaults
 pub mod Reading

@@ -1,8 +1,10 @@
 //! An opened input, read to its end into a store.
 
-ghost use Rattle.std.specs.Prelude.{◌≡◌, ◌<◌, ◌^◌, false, IfSome};
+ghost use Rattle.std.specs.Prelude.{◌≡◌, ◌<◌, ◌^◌, [], false, Err, IfErr, IfSome, OnOk};
+ghost use Rattle.opl_reader.specs.Reader.{new_reader};
 ghost use Rattle.osm_host.specs.Outside.{HasRisen, OnlyReads};
 ghost use Rattle.osm_input.specs.Keeps.{KeepsNames};
+ghost use Rattle.osm_input.specs.PieceSteps.{HasTakenAll};
 ghost use Rattle.osm_input.specs.Reading.{IsReadOf, IsReadWhole, Reads, ReadsOnce};
 
 use crate::fault::InputFault;
@@ -76,10 +78,34 @@ fn read_pieces<H: Host>(
     ensures keeps { KeepsNames (H.seen host.old) (H.seen host.new) }
     ensures rest { OnlyReads (H.seen host.old) (H.seen host.new) }
 {
-    // By law: bytes that are taken one piece after another are taken as one.
-    streams_append();
     let mut lines = Lines::new(alloc, longest);
     let mut store = Store::new(alloc);
+    if let Err(error) = take_pieces(host, limit, &mut lines, &mut store) {
+        return Err(error);
+    }
+    finish(lines, store)
+}
+
+/// Takes the opened input piece by piece to its end: the objects of whole lines go into the store.
+fn take_pieces<H: Host>(
+    host: &mut H,
+    limit: u64,
+    lines: &mut Lines,
+    store: &mut Store,
+) -> Result<(), ReadError>
+    requires limited { limit < 2 ^ 63 }
+    requires goes_on { (H.seen host.old).at_end ≡ false }
+    requires begins { lines.old ≡ new_reader lines.old.longest }
+    requires empty { store.old ≡ [] }
+    ensures taken { OnOk result (HasTakenAll limit lines.old.longest (H.seen host.old) (H.seen host.new) lines.new store.new) }
+    ensures refused { IfErr result (λ e. Reads limit lines.old.longest (H.seen host.old) (H.seen host.new) (Err e)) }
+    ensures no_fault { OnOk result ((H.seen host.new).read_faults ≡ (H.seen host.old).read_faults) }
+    ensures at_once { IfErr result (λ e. ReadsOnce (H.seen host.old) (H.seen host.new) (Err e)) }
+    ensures keeps { KeepsNames (H.seen host.old) (H.seen host.new) }
+    ensures rest { OnlyReads (H.seen host.old) (H.seen host.new) }
+{
+    // By law: bytes that are taken one piece after another are taken as one.
+    streams_append();
     let mut buffer = [0; PIECE];
     let mut room = limit;
     loop {
@@ -87,10 +113,10 @@ fn read_pieces<H: Host>(
             return Err(ReadError::ReadFault);
         };
         if count == 0 {
-            return finish(lines, store);
+            return Ok(());
         }
         let within = room.min(count as u64);
-        if let Err(error) = read_piece(&mut lines, &mut store, &buffer[..within as usize]) {
+        if let Err(error) = read_piece(lines, store, &buffer[..within as usize]) {
             return Err(error);
         }
         if within < count as u64 {
