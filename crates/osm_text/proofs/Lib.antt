@@ -11,4 +11,5 @@ mod PieceLemmas
 mod PropertyLemmas
 mod RingRounding
 mod RowLemmas
+mod StepLemmas
 pub mod WholePaths
