@@ -130,7 +130,8 @@ impl Store {
     ///
     /// In this case the store is unchanged, as after an `Err`.
     fn add_lent(&mut self, object: &Object) -> Result<Option<i64>, AddError>
-        ensures added { IfOk result (λ left. left ≡ None → self.new ≡ with_object self.old object.now) }
+        ensures added { IfOk result (λ left. left ≡ None
+            → self.new ≡ with_object self.old object.now) }
         ensures left { IfOk result (λ left. IfSome left (λ _. self.new ≡ self.old)) }
         ensures live { IfOk result (λ left. IfSome left (λ _. is_live object.now ≡ true)) }
         ensures id { IfOk result (λ left. IfSome left (λ id. id ≡ id_of object.now)) }

@@ -1,6 +1,7 @@
 -- What was there stays in front where a call fails that adds what comes next.
 use Rattle.std.proofs.Common.{List, OnErr, Result, ℕ, ◌++◌, ◌≡◌}
-use Rattle.osm_notation.proofs.KeptTexts.{kept_at_fault, kept_further, kept_through}
+use Rattle.osm_notation.proofs.KeptTexts.{kept_at_fault, kept_through}
+pub use Rattle.osm_notation.proofs.KeptTexts.{kept_further}
 use Rattle.osm_notation.specs.Kept.{KeepsFront}
 
 -- first by one call, then something was added, and then by a call that fails

@@ -1,7 +1,7 @@
 -- One more hole.
-use Rattle.osm_notation.proofs.KeptTexts.{kept_further}
 use Rattle.osm_text.specs.PieceSteps.{hole_text}
 use Rattle.osm_text.specs.Rounded.{vanished_at}
+use Rattle.osm_text.proofs.KeptLemmas.{kept_further}
 use Rattle.osm_text.proofs.StepLemmas.{filter_step, flat_step}
 use Rattle.osm_text.proofs.piece.put_holes.Goals as goal
 
