@@ -1,6 +1,7 @@
 mod Bytes
 mod FieldLemmas
 mod ItemLemmas
+mod KeptParts
 mod LineLemmas
 mod NumberLemmas
 mod ReadBack

@@ -3,8 +3,29 @@ use Rattle.std.proofs.Common.{◌++◌, ◌∷◌, [], ◌∙◌, ap, refl}
 use Rattle.std.proofs.Math.Nat.{lt_of_le_of_lt}
 use Rattle.coast_join.specs.declared.gap.Gap.{Gap}
 use Rattle.coast_join.specs.declared.nearest_pairs.Matching.{Matching}
-use Rattle.coast_join.proofs.MatchedPairs.{aside_step, take_step}
+use Rattle.coast_join.proofs.MatchedPairs.{aside_step, take_step, unmarked_inside}
 use Rattle.coast_join.proofs.nearest_pairs.settle_one.Goals as goal
+
+pub mark-requires-clause-tree : goal.mark-requires-clause-tree
+mark-requires-clause-tree c = c.requires.matched.ends
+
+pub mark-requires-clause-inside : goal.mark-requires-clause-inside
+mark-requires-clause-inside c = unmarked_inside c.args.matching.now.ends.gone.items c.args.from.chain c.requires.free
+
+pub mutual_match-requires-clause-choice : goal.mutual_match-requires-clause-choice
+mutual_match-requires-clause-choice c = record { stands = c.requires.stands; free = c.requires.free; to = c.in-Some.ensures.to; least = c.in-Some.ensures.least }
+
+pub mark-requires-2-clause-tree : goal.mark-requires-2-clause-tree
+mark-requires-2-clause-tree c = c.requires.matched.ends
+
+pub mark-requires-2-clause-inside : goal.mark-requires-2-clause-inside
+mark-requires-2-clause-inside c = unmarked_inside c.args.matching.now.ends.gone.items c.in_ok-pair.pair.from.chain c.in_ok-pair.ensures.mutual.choice.free
+
+pub mark-requires-3-clause-tree : goal.mark-requires-3-clause-tree
+mark-requires-3-clause-tree c = c.requires.matched.starts
+
+pub mark-requires-3-clause-inside : goal.mark-requires-3-clause-inside
+mark-requires-3-clause-inside c = unmarked_inside c.args.matching.now.starts.gone.items c.in_ok-pair.pair.to.site.chain c.in_ok-pair.ensures.mutual.choice.to.free
 
 pub returns-in_default : goal.returns-in_default
 returns-in_default c =

@@ -3,8 +3,16 @@ use Rattle.std.proofs.Common.{◌≡◌, ◌∙◌, ◌++◌, ap, rules, w64, Fi
 use Rattle.std.specs.Fmt.{signed_decimal}
 use Rattle.std.proofs.lemmas.Int.{to_z-of_z}
 use Rattle.std.proofs.lemmas.Result.{on_ok_weaker}
+use Rattle.opl_writer.proofs.KeptParts.{last_of_three, none_added, one_added}
 use Rattle.opl_writer.proofs.ThreeParts.{three_added}
 use Rattle.opl_writer.proofs.lines.put_head.Goals as goal
+
+pub returns-in_err-push-clause-kept : goal.returns-in_err-push-clause-kept
+returns-in_err-push-clause-kept c = none_added c.from_residual.result c.args.text.now.items c.push.new.self.items c.in_err-push.ensures.items
+
+pub returns-in_err-put_number-clause-kept : goal.returns-in_err-put_number-clause-kept
+returns-in_err-put_number-clause-kept c =
+    one_added c.from_residual-in_err-put_number.result c.args.text.now.items c.push.new.self.items _ c.in_ok-push.ensures.items c.put_number.new.text.items c.in_err-put_number.ensures.kept
 
 pub returns-clause-text : goal.returns-clause-text
 returns-clause-text c =
@@ -14,3 +22,8 @@ returns-clause-text c =
     on_ok_weaker c.put_tags.result
     (λ tags. three_added c.args.text.now.items letter c.put_number.new.text.items c.put_tags.new.text.items _ _ _ c.in_ok-push.ensures.items number tags)
     c.put_tags.ensures.text
+
+pub returns-clause-kept : goal.returns-clause-kept
+returns-clause-kept c =
+    last_of_three c.put_tags.result c.args.text.now.items c.push.new.self.items _ c.in_ok-push.ensures.items c.put_number.new.text.items _ c.in_ok-put_number.ensures.text
+    c.put_tags.new.text.items c.put_tags.ensures.kept
