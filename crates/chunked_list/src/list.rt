@@ -125,6 +125,17 @@ impl<T: Copy> ChunkedList<T> {
         self.changed
     }
 
+    /// Where an item was last put in or taken out, and the places next to that: where to look for an item first.
+    pub fn places_near_change(&self) -> [usize; 4] {
+        let at = self.changed;
+        [
+            at,
+            at.saturating_add(1),
+            at.saturating_sub(1),
+            at.saturating_add(2),
+        ]
+    }
+
     /// Where the items that pass a test end, if those that pass it stand before those that don't. It is looked for first where the
     /// list was changed last.
     pub fn partition_point<F: Fn(&T) -> bool>(&self, test: F) -> usize
@@ -145,8 +156,8 @@ impl<T: Copy> ChunkedList<T> {
             → told ≡ p x) → IsPartitionedBy p self.now
             → IsPartitionPoint (λ x. p x ≡ true) (λ x. p x ≡ false) self.now result }
     {
-        let search = Search::new(&self.chunks, &self.starts, self.len, self.near);
-        search.near(near).point(near, &test)
+        let search = Search::around(&self.chunks, &self.starts, self.len, self.near, near);
+        search.point(near, &test)
     }
 
     /// Takes out the items that don't pass a test.

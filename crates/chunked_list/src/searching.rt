@@ -59,23 +59,24 @@ impl<'a, T: Copy> Search<'a, T> {
         }
     }
 
-    /// The same items, looked for first in a chunk.
-    fn beside(&self, near: usize) -> Search<'a, T>
-        ensures { result ≡ self.now }
+    /// So many items, looked for first in the chunk where `count` of them end, which is looked for in the chunk `near` first.
+    pub(crate) fn around(
+        chunks: &'a [Vec<T>],
+        starts: &'a Starts,
+        len: usize,
+        near: usize,
+        count: usize,
+    ) -> Search<'a, T>
+        requires len { length (flat_map (λ c. c.items) chunks.now) ≡ len }
+        requires starts { starts.now ≡ starts_from (λ c. c.items) 0 chunks.now }
+        ensures { result ≡ flat_map (λ c. c.items) chunks.now }
     {
-        Search::new(self.chunks, self.starts, self.len, near)
-    }
-
-    /// The same items, looked for first in the chunk where so many end.
-    pub(crate) fn near(&self, count: usize) -> Search<'a, T>
-        ensures { result ≡ self.now }
-    {
-        let count = count.min(self.len);
+        let count = count.min(len);
         if count == 0 {
-            return self.beside(self.near);
+            return Search::new(chunks, starts, len, near);
         }
-        let end = end_of(self.chunks, self.starts, self.near, count);
-        self.beside(end.chunk)
+        let end = end_of(chunks, starts, near, count);
+        Search::new(chunks, starts, len, end.chunk)
     }
 
     /// The item at a place.
@@ -195,7 +196,8 @@ impl<'a, T: Copy> Search<'a, T> {
         requires { F.IsAlwaysCallable test.now }
         ensures { result ≡ self.now }
     {
-        self.beside(chunks_begun(self.chunks, test).saturating_sub(1))
+        let near = chunks_begun(self.chunks, test).saturating_sub(1);
+        Search::new(self.chunks, self.starts, self.len, near)
     }
 
     /// Where those that pass seem to end, by the chunk looked at first. Only speed rests on it.

@@ -15,6 +15,7 @@ mod LeftEnclosers
 mod Leftmost
 pub mod Listing
 mod LoneRing
+mod Merging
 mod MultipliedRings
 mod Nearest
 pub mod NestKit

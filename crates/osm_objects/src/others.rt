@@ -72,9 +72,32 @@ fn go_on(list: &[Placed], in_order: usize, of: ObjectRef) -> bool
     behind.is_empty() && lies_above(sorted, of)
 }
 
+/// The place that this kind and id would have if the ids of each kind followed one another. Only the speed of the search depends
+/// on it.
+fn likely_place(sorted: &[Placed], of: ObjectRef) -> usize {
+    let (Some(first), Some(last)) = (sorted.first(), sorted.last()) else {
+        return 0;
+    };
+    let (first, last) = (first.of(), last.of());
+    if of.kind == first.kind {
+        return of.id.wrapping_sub(first.id).unsigned_abs() as usize;
+    }
+    let behind = last.id.wrapping_sub(of.id).unsigned_abs() as usize;
+    sorted.len().wrapping_sub(behind).wrapping_sub(1)
+}
+
+/// Whether the object of this kind and id is at a place.
+fn is_there(sorted: &[Placed], place: usize, of: ObjectRef) -> bool
+    ensures inside { result ≡ true → place < length sorted.now }
+    ensures at { result ≡ true
+        → HoldsAt (λ placed. is_held_at of placed ≡ true) sorted.now place }
+{
+    place < sorted.len() && sorted[place].is_at(of)
+}
+
 /// The place of this kind and id among objects in order.
 ///
-/// Ways: above all of them; all others by binary search.
+/// Ways: above all of them; where they are if the ids of each kind follow one another; all others by binary search.
 fn place_of(sorted: &[Placed], of: ObjectRef) -> Option<usize>
     requires { IsSortedByKey ref_held ref_cmp sorted.now }
     ensures { MatchOption result
@@ -84,6 +107,10 @@ fn place_of(sorted: &[Placed], of: ObjectRef) -> Option<usize>
 {
     if lies_above(sorted, of) {
         return None;
+    }
+    let likely = likely_place(sorted, of);
+    if is_there(sorted, likely, of) {
+        return Some(likely);
     }
     sorted.binary_search_by_key(&of, |placed| placed.of()).ok()
 }

@@ -12,7 +12,7 @@ ghost use Rattle.osm_nest.specs.SweptEdges.{AreSlopingEdges, IsInnerAnchor, IsTe
 use crate::outer::lower_end;
 use crate::ring_anchors::Anchors;
 use crate::sweep::ring_edge::RingEdge;
-use crate::sweep::ring_edges::{Top, by_lower_ends, by_upper_ends, rising_edges};
+use crate::sweep::ring_edges::{Top, by_upper_ends, rising_edges, sort_by_lower_ends};
 use crate::sweep::status::{enter_row, leave, left_neighbour};
 use chunked_list::ChunkedList;
 use osm_geom::{Edge, spans_height};
@@ -112,7 +112,8 @@ fn inner_anchors<'a>(
             inner.push(anchors.edges[place])?;
         }
     }
-    Ok(by_lower_ends(inner))
+    sort_by_lower_ends(&mut inner);
+    Ok(inner)
 }
 
 /// None for each ring.

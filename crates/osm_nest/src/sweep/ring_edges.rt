@@ -11,7 +11,6 @@ use osm_geom::{Edge, Point, order_points, spans_height};
 use osm_rings::Ring;
 use std::alloc::{AllocError as OutOfMemory, Global};
 use std::cmp::Ordering;
-use std::mem;
 
 /// Whether an edge isn't horizontal.
 fn is_sloping(edge: &Edge) -> bool
@@ -64,24 +63,6 @@ fn edge_count(rings: &[Ring]) -> usize {
     count
 }
 
-/// The edges of all rings that aren't horizontal: those that run up, followed by those that run down.
-fn sloping_edges<'a>(alloc: Global, rings: &'a [Ring]) -> Result<Vec<RingEdge<'a>>, OutOfMemory>
-    ensures { IfOk result (λ v. AreSlopingEdges rings.now v.items) }
-{
-    // Rings are mostly in order of their least nodes. So if they are small, both lists are nearly in order.
-    let count = edge_count(rings);
-    let mut up = Vec::with_capacity(alloc, count)?;
-    // Of most rings about half run down. With a little more room the list doesn't double.
-    let room = (count / 2).saturating_add(count / 16);
-    let mut down = Vec::with_capacity(alloc, room)?;
-    for (place, ring) in rings.iter().enumerate() {
-        push_ring(&mut up, &mut down, ring.as_slice(), place)?;
-    }
-    up.append(&mut down)?;
-    mem::drop(down);
-    Ok(up)
-}
-
 /// Whether an edge doesn't begin before another.
 fn is_in_order(edge: &RingEdge, next: &RingEdge) -> bool
     ensures { result
@@ -114,27 +95,57 @@ fn compare_lower_ends(edge: &RingEdge, other: &RingEdge) -> Ordering
     order_points(lower_end(edge.edge), lower_end(other.edge))
 }
 
-/// The edges sorted by their lower ends, where they stand.
-fn sorted_by_lower_ends<'a>(edges: Vec<RingEdge<'a>>) -> Vec<RingEdge<'a>>
-    ensures moved { IsPermutation edges.entry.items result.items }
-    ensures rise { StartsRise result.items }
-{
-    let mut edges = edges;
-    edges.sort_unstable_by(|e, f| compare_lower_ends(e, f));
-    edges
-}
-
-/// The edges in order of their lower ends.
+/// Puts edges in order of their lower ends, where they stand.
 ///
 /// Ways: edges that are in order; all others by a sort.
-pub(crate) fn by_lower_ends<'a>(edges: Vec<RingEdge<'a>>) -> Vec<RingEdge<'a>>
-    ensures moved { IsPermutation edges.entry.items result.items }
-    ensures rise { StartsRise result.items }
+pub(crate) fn sort_by_lower_ends(edges: &mut Vec<RingEdge>)
+    ensures moved { IsPermutation edges.old.items edges.new.items }
+    ensures rise { StartsRise edges.new.items }
 {
-    if starts_rise(&edges) {
-        return edges;
+    if starts_rise(edges) {
+        return;
     }
-    sorted_by_lower_ends(edges)
+    edges.sort_unstable_by(|e, f| compare_lower_ends(e, f));
+}
+
+/// Puts a second list of edges into a first, which is in order then if both were.
+///
+/// This begins at their ends, in the room that the first has behind its edges: so it takes no more memory than an append.
+fn merge<'a>(edges: &mut Vec<RingEdge<'a>>, others: &[RingEdge<'a>]) -> Result<(), OutOfMemory>
+    ensures { OnOk result (IsPermutation (edges.old.items ++ others.now) edges.new.items) }
+{
+    let mut left = edges.len();
+    let mut rest = others.len();
+    edges.extend_from_slice(others)?;
+    while rest > 0 {
+        if left > 0 && !is_in_order(&edges[left - 1], &others[rest - 1]) {
+            left -= 1;
+            edges[left + rest] = edges[left];
+        } else {
+            rest -= 1;
+            edges[left + rest] = others[rest];
+        }
+    }
+    Ok(())
+}
+
+/// The edges of all rings that aren't horizontal, in order of their lower ends, though no clause says so.
+fn sloping_edges<'a>(alloc: Global, rings: &'a [Ring]) -> Result<Vec<RingEdge<'a>>, OutOfMemory>
+    ensures { IfOk result (λ v. AreSlopingEdges rings.now v.items) }
+{
+    // Rings are mostly in order of their least nodes. So if they are small, both lists are nearly in order.
+    let count = edge_count(rings);
+    let mut up = Vec::with_capacity(alloc, count)?;
+    // Of most rings about half run down. With a little more room the list doesn't double.
+    let room = (count / 2).saturating_add(count / 16);
+    let mut down = Vec::with_capacity(alloc, room)?;
+    for (place, ring) in rings.iter().enumerate() {
+        push_ring(&mut up, &mut down, ring.as_slice(), place)?;
+    }
+    sort_by_lower_ends(&mut up);
+    sort_by_lower_ends(&mut down);
+    merge(&mut up, &down)?;
+    Ok(up)
 }
 
 /// The edges of all rings that aren't horizontal, in order of their lower ends.
@@ -145,8 +156,9 @@ pub(crate) fn rising_edges<'a>(
     ensures edges { IfOk result (λ v. AreSlopingEdges rings.now v.items) }
     ensures rise { IfOk result (λ v. StartsRise v.items) }
 {
-    let listed = sloping_edges(alloc, rings)?;
-    Ok(by_lower_ends(listed))
+    let mut edges = sloping_edges(alloc, rings)?;
+    sort_by_lower_ends(&mut edges);
+    Ok(edges)
 }
 
 /// Where an edge ends, as far as whole numbers tell it, and its place in a list. It takes 12 bytes.

@@ -99,8 +99,7 @@ fn is_at(status: &ChunkedList<RingEdge>, place: usize, edge: &RingEdge) -> bool 
 fn place_of(status: &ChunkedList<RingEdge>, edge: &RingEdge, at: &Point) -> usize
     requires { is_within at.now edge.now ≡ true }
 {
-    let first = status.last_changed().saturating_sub(1);
-    for place in first..first.saturating_add(4) {
+    for place in status.places_near_change() {
         if is_at(status, place, edge) {
             return place;
         }

@@ -25,8 +25,7 @@ fn find_near(status: &ChunkedList<Seg>, s: Seg) -> Option<usize>
     ensures inside { IfSome result (λ place. place < length status.now) }
     ensures at { IfSome result (λ place. slice_index_or status.now place s ≡ s) }
 {
-    let first = status.last_changed().saturating_sub(1);
-    for place in first..first.saturating_add(4) {
+    for place in status.places_near_change() {
         if is_at(status, place, s) {
             return Some(place);
         }

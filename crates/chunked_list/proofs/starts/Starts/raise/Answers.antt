@@ -1,4 +1,4 @@
-use Rattle.std.proofs.Common.{arith, drop, length, map, take, ◌++◌, ◌+◌, ◌/◌, ◌∷◌, ◌≡◌, ◌≤◌, ◌-◌}
+use Rattle.std.proofs.Common.{arith, drop, length, map, take, ◌++◌, ◌+◌, ◌/◌, ◌∷◌, ◌≡◌, ◌≤◌}
 use Rattle.std.proofs.Math.ListN.{get_or}
 use Rattle.std.proofs.Math.Path.{ap, subst, sym, ◌∙◌}
 use Rattle.std.proofs.lemmas.List.{append-nil, drop_all, take_all, with_items_is}

@@ -20,4 +20,4 @@ loop-place-preserved c =
     ]
 
 pub returns : goal.returns
-returns c = All-permutation (IsInnerAnchor c.args.rings.now) c.loop-place.inner.items c.by_lower_ends.result.items c.by_lower_ends.ensures.moved c.loop-place.invariant
+returns c = All-permutation (IsInnerAnchor c.args.rings.now) c.loop-place.inner.items c.sort_by_lower_ends.new.edges.items c.sort_by_lower_ends.ensures.moved c.loop-place.invariant

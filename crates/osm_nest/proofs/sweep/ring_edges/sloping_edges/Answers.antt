@@ -1,5 +1,8 @@
-use Rattle.std.proofs.Common.{arith, length, subst, sym, ◌++◌, ◌≡◌}
-use Rattle.osm_nest.specs.SweptEdges.{AreRingEdges, AreSlopingEdges}
+use Rattle.std.proofs.Common.{arith, length, subst, ◌++◌, ◌≡◌}
+use Rattle.std.specs.List.Sorted.{IsPermutation}
+use Rattle.std.proofs.lemmas.List.Sorted.{IsPermutation-append}
+use Rattle.osm_nest.specs.SweptEdges.{AreRingEdges}
+use Rattle.osm_nest.proofs.KnownEnclosers.{items-permutation}
 use Rattle.osm_nest.proofs.RingEdges.{all-items, ring-added}
 use Rattle.osm_nest.proofs.sweep.ring_edges.sloping_edges.Goals as goal
 
@@ -12,6 +15,9 @@ loop-place-preserved c =
 
 pub returns : goal.returns
 returns c =
-    let all = c.loop-place.up.items ++ c.loop-place.down.items in
-    subst (AreSlopingEdges c.args.rings.now) (sym c.in_ok-append.ensures.items)
-    (all-items c.args.rings.now c.loop-place.place all (let e : c.loop-place.place ≡ length c.args.rings.now = omega arith in e) c.loop-place.invariant)
+    let rs = c.args.rings.now in let up = c.loop-place.up.items in let down = c.loop-place.down.items in
+    let first = c.sort_by_lower_ends.new.edges.items in let second = c.sort_by_lower_ends-2.new.edges.items in
+    let listed = all-items rs c.loop-place.place (up ++ down) (let e : c.loop-place.place ≡ length rs = omega arith in e) c.loop-place.invariant in
+    let sorted = items-permutation rs (up ++ down) (first ++ second) (IsPermutation-append up first down second c.sort_by_lower_ends.ensures.moved c.sort_by_lower_ends-2.ensures.moved) listed in
+    items-permutation rs (first ++ second) c.merge.new.edges.items
+    (subst (λ xs. IsPermutation (first ++ xs) c.merge.new.edges.items) c.deref.ensures.value c.in_ok-merge.ensures) sorted

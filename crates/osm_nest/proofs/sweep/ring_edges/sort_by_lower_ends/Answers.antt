@@ -8,7 +8,7 @@ use Rattle.osm_geom.specs.Point.{point_cmp}
 use Rattle.osm_geom.specs.Span.{lower_end}
 use Rattle.osm_geom.proofs.GeometryKit.{point_total}
 use Rattle.osm_nest.specs.declared.sweep.ring_edge.RingEdge.{RingEdge}
-use Rattle.osm_nest.proofs.sweep.ring_edges.sorted_by_lower_ends.Goals as goal
+use Rattle.osm_nest.proofs.sweep.ring_edges.sort_by_lower_ends.Goals as goal
 
 pub returns-clause-rise : goal.returns-clause-rise
 returns-clause-rise c =
