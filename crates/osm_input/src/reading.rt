@@ -97,8 +97,8 @@ fn take_pieces<H: Host>(
     requires goes_on { (H.seen host.old).at_end ≡ false }
     requires begins { lines.old ≡ new_reader lines.old.longest }
     requires empty { store.old ≡ [] }
-    ensures taken { OnOk result (HasTakenAll limit lines.old.longest (H.seen host.old) (H.seen host.new)
-        lines.new store.new) }
+    ensures taken { OnOk result (HasTakenAll limit lines.old.longest
+        (H.seen host.old) (H.seen host.new) lines.new store.new) }
     ensures refused { IfErr result (λ e.
         Reads limit lines.old.longest (H.seen host.old) (H.seen host.new) (Err e)) }
     ensures no_fault { OnOk result ((H.seen host.new).read_faults ≡ (H.seen host.old).read_faults) }

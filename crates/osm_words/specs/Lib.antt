@@ -16,6 +16,7 @@ pub mod CertifyCommand
 pub mod CertifyWords
 pub mod LocateCommand
 pub mod LocateWords
+pub mod Told
 pub mod Words
 pub mod Answers
 pub mod PlainWords

@@ -3,9 +3,27 @@
 ghost use Rattle.std.specs.Prelude.{◌≡◌, All, IfOk, false, map};
 ghost use Rattle.clap.specs.Words.{app_of, rule_of};
 ghost use Rattle.osm_words.specs.Arguments.{app_of_all, flag_rule, long_flag_rule, long_option_rule, option_rule, positional_rule};
+ghost use Rattle.osm_words.specs.Told.{rule_told};
 
 use clap::{Arg, ArgAction, Command};
 use std::alloc::{AllocError as OutOfMemory, Global};
+
+/// An argument of a command: its name, and of an option its letter and its long form.
+///
+/// An option without a letter is written by its name.
+#[derive(Clone, Copy)]
+pub(crate) enum Argument {
+    /// An option with one value.
+    Valued(&'static str, char, &'static str),
+    /// An option with one value and without a letter.
+    LongValued(&'static str),
+    /// An option without a value.
+    Flag(&'static str, char, &'static str),
+    /// An option without a value and without a letter.
+    LongFlag(&'static str),
+    /// A word that is no option and has to be there.
+    Positional(&'static str),
+}
 
 /// An option with one value.
 pub(crate) fn option<'a>(alloc: Global, name: &'a str, letter: char, long: &'a str) -> Arg<'a>
@@ -51,6 +69,36 @@ pub(crate) fn positional<'a>(alloc: Global, name: &'a str) -> Arg<'a>
     ensures local { result.global ≡ false }
 {
     Arg::new(alloc, name).required(true).action(ArgAction::Set)
+}
+
+/// An argument as `clap` has it.
+fn clap_argument<'a>(alloc: Global, of: Argument) -> Arg<'a>
+    ensures rule { rule_of result ≡ rule_told of }
+    ensures local { result.global ≡ false }
+{
+    match of {
+        Argument::Valued(name, letter, long) => option(alloc, name, letter, long),
+        Argument::LongValued(name) => long_option(alloc, name),
+        Argument::Flag(name, letter, long) => flag(alloc, name, letter, long),
+        Argument::LongFlag(name) => long_flag(alloc, name),
+        Argument::Positional(name) => positional(alloc, name),
+    }
+}
+
+/// Arguments, in order.
+pub(crate) fn arguments_of<'a>(
+    alloc: Global,
+    all: &[Argument],
+) -> Result<Vec<Arg<'a>>, OutOfMemory>
+    ensures rules { IfOk result (λ v. map (λ (a : Arg). rule_of a) v.items
+        ≡ map rule_told all.now) }
+    ensures local { IfOk result (λ v. All (λ (a : Arg). a.global ≡ false) v.items) }
+{
+    let mut arguments = Vec::with_capacity(alloc, all.len())?;
+    for &of in all {
+        arguments.push(clap_argument(alloc, of))?;
+    }
+    Ok(arguments)
 }
 
 /// The command of this name that takes these arguments. `-h` and `--help` are words like any other that it doesn't know.

@@ -4,7 +4,7 @@ ghost use Rattle.std.specs.Prelude.{◌≡◌, All, IfOk, false, map, string_byt
 ghost use Rattle.clap.specs.Words.{FailsBy, app_of, fault_of, found_of, matches_of, rows_of, rule_of};
 ghost use Rattle.osm_words.specs.ExportCommand.{export_app, export_rules};
 
-use crate::arguments::{command_with, flag, long_option, option, positional};
+use crate::arguments::{Argument, arguments_of, command_with};
 use clap::{Arg, ArgMatches, Command, Error};
 use std::alloc::{AllocError as OutOfMemory, Global};
 
@@ -13,20 +13,20 @@ fn export_arguments<'a>(alloc: Global) -> Result<Vec<Arg<'a>>, OutOfMemory>
     ensures rules { IfOk result (λ v. map (λ (a : Arg). rule_of a) v.items ≡ export_rules) }
     ensures local { IfOk result (λ v. All (λ (a : Arg). a.global ≡ false) v.items) }
 {
-    let arguments = vec![in alloc;
-        option(alloc, "format", 'f', "output-format"),
-        option(alloc, "output", 'o', "output"),
-        flag(alloc, "overwrite", 'O', "overwrite"),
-        flag(alloc, "keep-untagged", 'n', "keep-untagged"),
-        option(alloc, "ids", 'u', "add-unique-id"),
-        flag(alloc, "omit-rs", 'r', "omit-rs"),
-        flag(alloc, "show-errors", 'e', "show-errors"),
-        flag(alloc, "stop-on-error", 'E', "stop-on-error"),
-        long_option(alloc, "area-keys"),
-        long_option(alloc, "linear-keys"),
-        positional(alloc, "file"),
-    ]?;
-    Ok(arguments)
+    let arguments = [
+        Argument::Valued("format", 'f', "output-format"),
+        Argument::Valued("output", 'o', "output"),
+        Argument::Flag("overwrite", 'O', "overwrite"),
+        Argument::Flag("keep-untagged", 'n', "keep-untagged"),
+        Argument::Valued("ids", 'u', "add-unique-id"),
+        Argument::Flag("omit-rs", 'r', "omit-rs"),
+        Argument::Flag("show-errors", 'e', "show-errors"),
+        Argument::Flag("stop-on-error", 'E', "stop-on-error"),
+        Argument::LongValued("area-keys"),
+        Argument::LongValued("linear-keys"),
+        Argument::Positional("file"),
+    ];
+    arguments_of(alloc, &arguments)
 }
 
 /// The command for which `clap` parses.
