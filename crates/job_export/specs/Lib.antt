@@ -1,3 +1,4 @@
+pub mod AdditionSteps
 pub mod Choice
 pub mod Entries
 pub mod Entry

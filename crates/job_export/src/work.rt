@@ -1,7 +1,9 @@
 //! The work: assembles each candidate's area, and writes it with the following ones, or before the next report line.
 
 ghost use Rattle.std.specs.Prelude.{◌≡◌, ◌+◌, ◌≤◌, All, IfOk, IsSome, Ok};
+ghost use Rattle.job_export.specs.AdditionSteps.{WroteAddition};
 ghost use Rattle.job_export.specs.ExportSteps.{WroteWhole, WroteCandidates, WroteCandidate, ended_by_halt};
+ghost use Rattle.job_export.specs.Reports.{TellsKinds};
 ghost use Rattle.job_export.specs.Choice.{choice_of};
 ghost use Rattle.job_export.specs.Export.{Exports, IsExport};
 ghost use Rattle.osm_job.specs.Worked.{WroteOver};
@@ -10,7 +12,7 @@ ghost use Rattle.osm_objects.specs.Objects.{object_at};
 ghost use Rattle.osm_words.specs.Answers.{settings_seen};
 
 use crate::choice::candidates_of;
-use crate::entry::addition_of;
+use crate::entry::{Addition, addition_of};
 use crate::framing::{footer, header};
 use crate::laws::export_exists;
 use crate::writing::{write_last, write_waiting};
@@ -172,6 +174,25 @@ fn write_candidate<H: Host>(
     let Ok(addition) = addition_of(alloc, waiting, store, settings, candidate, earlier) else {
         return Err(write_last(host, waiting));
     };
+    write_addition(alloc, settings, candidate, &addition, waiting, host)
+}
+
+/// Writes what a candidate adds, whose feature is the last that waits. A feature alone goes on waiting.
+///
+/// The answer is the number of the candidate's features, 1 or 0.
+fn write_addition<H: Host>(
+    alloc: Global,
+    settings: &ExportSettings<'_>,
+    candidate: ObjectRef,
+    addition: &Addition,
+    waiting: &mut Vec<u8>,
+    host: &mut H,
+) -> Result<u64, Halt>
+    requires { TellsKinds addition.now.report }
+    ensures one { IfOk result (λ count. count ≤ 1) }
+    ensures wrote { WroteAddition (settings_seen settings.now) candidate addition.now
+        waiting.old.items waiting.new.items (H.seen host.old) (H.seen host.new) result }
+{
     if addition.is_feature_alone() && waiting.len() < MANY {
         return Ok(1);
     }
