@@ -26,7 +26,7 @@ pub(crate) enum Argument {
 }
 
 /// An option with one value.
-pub(crate) fn option<'a>(alloc: Global, name: &'a str, letter: char, long: &'a str) -> Arg<'a>
+fn option<'a>(alloc: Global, name: &'a str, letter: char, long: &'a str) -> Arg<'a>
     ensures rule { rule_of result ≡ option_rule name.now letter long.now }
     ensures local { result.global ≡ false }
 {
@@ -37,7 +37,7 @@ pub(crate) fn option<'a>(alloc: Global, name: &'a str, letter: char, long: &'a s
 }
 
 /// An option with one value and without a short form, which is written by its name.
-pub(crate) fn long_option<'a>(alloc: Global, name: &'a str) -> Arg<'a>
+fn long_option<'a>(alloc: Global, name: &'a str) -> Arg<'a>
     ensures rule { rule_of result ≡ long_option_rule name.now }
     ensures local { result.global ≡ false }
 {
@@ -45,7 +45,7 @@ pub(crate) fn long_option<'a>(alloc: Global, name: &'a str) -> Arg<'a>
 }
 
 /// An option without a value.
-pub(crate) fn flag<'a>(alloc: Global, name: &'a str, letter: char, long: &'a str) -> Arg<'a>
+fn flag<'a>(alloc: Global, name: &'a str, letter: char, long: &'a str) -> Arg<'a>
     ensures rule { rule_of result ≡ flag_rule name.now letter long.now }
     ensures local { result.global ≡ false }
 {
@@ -56,7 +56,7 @@ pub(crate) fn flag<'a>(alloc: Global, name: &'a str, letter: char, long: &'a str
 }
 
 /// An option without a value and without a short form, which is written by its name.
-pub(crate) fn long_flag<'a>(alloc: Global, name: &'a str) -> Arg<'a>
+fn long_flag<'a>(alloc: Global, name: &'a str) -> Arg<'a>
     ensures rule { rule_of result ≡ long_flag_rule name.now }
     ensures local { result.global ≡ false }
 {
@@ -86,10 +86,7 @@ fn clap_argument<'a>(alloc: Global, of: Argument) -> Arg<'a>
 }
 
 /// Arguments, in order.
-pub(crate) fn arguments_of<'a>(
-    alloc: Global,
-    all: &[Argument],
-) -> Result<Vec<Arg<'a>>, OutOfMemory>
+pub(crate) fn arguments_of<'a>(alloc: Global, all: &[Argument]) -> Result<Vec<Arg<'a>>, OutOfMemory>
     ensures rules { IfOk result (λ v. map (λ (a : Arg). rule_of a) v.items
         ≡ map rule_told all.now) }
     ensures local { IfOk result (λ v. All (λ (a : Arg). a.global ≡ false) v.items) }

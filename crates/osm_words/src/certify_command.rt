@@ -4,7 +4,7 @@ ghost use Rattle.std.specs.Prelude.{◌≡◌, All, IfOk, false, map, string_byt
 ghost use Rattle.clap.specs.Words.{FailsBy, app_of, fault_of, found_of, matches_of, rows_of, rule_of};
 ghost use Rattle.osm_words.specs.CertifyCommand.{certify_app, certify_rules};
 
-use crate::arguments::{command_with, flag, long_option, option, positional};
+use crate::arguments::{Argument, arguments_of, command_with};
 use clap::{Arg, ArgMatches, Command, Error};
 use std::alloc::{AllocError as OutOfMemory, Global};
 
@@ -13,15 +13,15 @@ fn certify_arguments<'a>(alloc: Global) -> Result<Vec<Arg<'a>>, OutOfMemory>
     ensures rules { IfOk result (λ v. map (λ (a : Arg). rule_of a) v.items ≡ certify_rules) }
     ensures local { IfOk result (λ v. All (λ (a : Arg). a.global ≡ false) v.items) }
 {
-    let arguments = vec![in alloc;
-        flag(alloc, "keep-untagged", 'n', "keep-untagged"),
-        option(alloc, "ids", 'u', "add-unique-id"),
-        long_option(alloc, "area-keys"),
-        long_option(alloc, "linear-keys"),
-        positional(alloc, "file"),
-        positional(alloc, "text"),
-    ]?;
-    Ok(arguments)
+    let arguments = [
+        Argument::Flag("keep-untagged", 'n', "keep-untagged"),
+        Argument::Valued("ids", 'u', "add-unique-id"),
+        Argument::LongValued("area-keys"),
+        Argument::LongValued("linear-keys"),
+        Argument::Positional("file"),
+        Argument::Positional("text"),
+    ];
+    arguments_of(alloc, &arguments)
 }
 
 /// The command for which `clap` parses.

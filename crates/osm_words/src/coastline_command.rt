@@ -4,7 +4,7 @@ ghost use Rattle.std.specs.Prelude.{◌≡◌, All, IfOk, false, map, string_byt
 ghost use Rattle.clap.specs.Words.{FailsBy, app_of, fault_of, found_of, matches_of, rows_of, rule_of};
 ghost use Rattle.osm_words.specs.CoastlineCommand.{coastline_app, coastline_rules};
 
-use crate::arguments::{command_with, flag, long_flag, long_option, option, positional};
+use crate::arguments::{Argument, arguments_of, command_with};
 use clap::{Arg, ArgMatches, Command, Error};
 use std::alloc::{AllocError as OutOfMemory, Global};
 
@@ -13,17 +13,17 @@ fn coastline_arguments<'a>(alloc: Global) -> Result<Vec<Arg<'a>>, OutOfMemory>
     ensures rules { IfOk result (λ v. map (λ (a : Arg). rule_of a) v.items ≡ coastline_rules) }
     ensures local { IfOk result (λ v. All (λ (a : Arg). a.global ≡ false) v.items) }
 {
-    let arguments = vec![in alloc;
-        option(alloc, "close-distance", 'c', "close-distance"),
-        option(alloc, "max-points", 'm', "max-points"),
-        option(alloc, "bbox-overlap", 'b', "bbox-overlap"),
-        option(alloc, "polygons", 'p', "output-polygons"),
-        long_option(alloc, "output"),
-        flag(alloc, "overwrite", 'f', "overwrite"),
-        long_flag(alloc, "cut-crossings"),
-        positional(alloc, "file"),
-    ]?;
-    Ok(arguments)
+    let arguments = [
+        Argument::Valued("close-distance", 'c', "close-distance"),
+        Argument::Valued("max-points", 'm', "max-points"),
+        Argument::Valued("bbox-overlap", 'b', "bbox-overlap"),
+        Argument::Valued("polygons", 'p', "output-polygons"),
+        Argument::LongValued("output"),
+        Argument::Flag("overwrite", 'f', "overwrite"),
+        Argument::LongFlag("cut-crossings"),
+        Argument::Positional("file"),
+    ];
+    arguments_of(alloc, &arguments)
 }
 
 /// The command for which `clap` parses.

@@ -4,7 +4,7 @@ ghost use Rattle.std.specs.Prelude.{◌≡◌, All, IfOk, false, map, string_byt
 ghost use Rattle.clap.specs.Words.{FailsBy, app_of, fault_of, found_of, matches_of, rows_of, rule_of};
 ghost use Rattle.osm_words.specs.FilterCommand.{filter_app, filter_rules};
 
-use crate::arguments::{command_with, flag, option, positional};
+use crate::arguments::{Argument, arguments_of, command_with};
 use clap::{Arg, ArgMatches, Command, Error};
 use std::alloc::{AllocError as OutOfMemory, Global};
 
@@ -13,12 +13,12 @@ fn filter_arguments<'a>(alloc: Global) -> Result<Vec<Arg<'a>>, OutOfMemory>
     ensures rules { IfOk result (λ v. map (λ (a : Arg). rule_of a) v.items ≡ filter_rules) }
     ensures local { IfOk result (λ v. All (λ (a : Arg). a.global ≡ false) v.items) }
 {
-    let arguments = vec![in alloc;
-        option(alloc, "output", 'o', "output"),
-        flag(alloc, "overwrite", 'O', "overwrite"),
-        positional(alloc, "file"),
-    ]?;
-    Ok(arguments)
+    let arguments = [
+        Argument::Valued("output", 'o', "output"),
+        Argument::Flag("overwrite", 'O', "overwrite"),
+        Argument::Positional("file"),
+    ];
+    arguments_of(alloc, &arguments)
 }
 
 /// The command for which `clap` parses.

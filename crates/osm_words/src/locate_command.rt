@@ -4,7 +4,7 @@ ghost use Rattle.std.specs.Prelude.{◌≡◌, All, IfOk, false, map, string_byt
 ghost use Rattle.clap.specs.Words.{FailsBy, app_of, fault_of, found_of, matches_of, rows_of, rule_of};
 ghost use Rattle.osm_words.specs.LocateCommand.{locate_app, locate_rules};
 
-use crate::arguments::{command_with, flag, long_option, option, positional};
+use crate::arguments::{Argument, arguments_of, command_with};
 use clap::{Arg, ArgMatches, Command, Error};
 use std::alloc::{AllocError as OutOfMemory, Global};
 
@@ -13,16 +13,16 @@ fn locate_arguments<'a>(alloc: Global) -> Result<Vec<Arg<'a>>, OutOfMemory>
     ensures rules { IfOk result (λ v. map (λ (a : Arg). rule_of a) v.items ≡ locate_rules) }
     ensures local { IfOk result (λ v. All (λ (a : Arg). a.global ≡ false) v.items) }
 {
-    let arguments = vec![in alloc;
-        flag(alloc, "keep-untagged", 'n', "keep-untagged"),
-        long_option(alloc, "area-keys"),
-        long_option(alloc, "linear-keys"),
-        option(alloc, "output", 'o', "output"),
-        flag(alloc, "overwrite", 'O', "overwrite"),
-        positional(alloc, "file"),
-        positional(alloc, "points"),
-    ]?;
-    Ok(arguments)
+    let arguments = [
+        Argument::Flag("keep-untagged", 'n', "keep-untagged"),
+        Argument::LongValued("area-keys"),
+        Argument::LongValued("linear-keys"),
+        Argument::Valued("output", 'o', "output"),
+        Argument::Flag("overwrite", 'O', "overwrite"),
+        Argument::Positional("file"),
+        Argument::Positional("points"),
+    ];
+    arguments_of(alloc, &arguments)
 }
 
 /// The command for which `clap` parses.
