@@ -1,5 +1,6 @@
 pub mod Coast
 pub mod CoastSteps
+pub mod LandSteps
 pub mod Report
 pub mod Pieces
 pub mod PieceSteps

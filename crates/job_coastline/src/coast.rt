@@ -11,6 +11,7 @@ ghost use Rattle.coast_sides.specs.Land.{HaveNoConflicts};
 ghost use Rattle.coast_sides.specs.Segments.{all_segments};
 ghost use Rattle.coast_sides.specs.CutSorting.{IsSortedWith, NamesOfRingsRise};
 ghost use Rattle.job_coastline.specs.CoastSteps.{IsInputOf, JoinsChains, MakesCoast, MakesLand};
+ghost use Rattle.job_coastline.specs.LandSteps.{KeepsLand};
 ghost use Rattle.job_coastline.specs.OutlineSteps.{IsShoreOf};
 ghost use Rattle.job_coastline.specs.Report.{antarctica_line, aside_line, conflict_line, cut_line, gap_line, left_out_line, repeated_line, unclosed_line, wrong_way_line};
 ghost use Rattle.osm_words.specs.Answers.{coastline_seen};
@@ -20,7 +21,7 @@ use crate::lines::{
     repeated_lines, unclosed_lines, wrong_way_lines,
 };
 use coast_join::{
-    Chain, Closings, CoastInput, Joined, chains, closed_rings, closings, coast_input,
+    Chain, Closings, CoastInput, CoastRing, Joined, chains, closed_rings, closings, coast_input,
 };
 use coast_sides::{Land, Sorted, cut_and_sort_out, land, sort_out};
 use osm_geom::Edges;
@@ -135,15 +136,39 @@ fn add_land(alloc: Global, land: &Land, lines: &mut Vec<CoastLine>) -> Result<()
     Ok(())
 }
 
-/// The edges of land. Lines tell of all that is amiss with rings.
+/// The edges of land of kept rings. Lines tell of segments that stand more than once, and of rings that run the wrong way.
+fn kept_land(
+    alloc: Global,
+    kept: &[CoastRing],
+    lines: &mut Vec<CoastLine>,
+) -> Result<Edges, OutOfMemory>
+    requires { HaveNoConflicts (all_segments kept.now) }
+    ensures { IfOk result (λ edges. KeepsLand kept.now edges lines.old.items lines.new.items) }
+{
+    let land = land(alloc, kept)?;
+    add_land(alloc, &land, lines)?;
+    Ok(land.edges)
+}
+
+/// The edges of land of rings that are sorted out. Lines tell of all that is amiss with rings.
+fn sorted_land(
+    alloc: Global,
+    sorted: &Sorted,
+    lines: &mut Vec<CoastLine>,
+) -> Result<Edges, OutOfMemory>
+    requires { HaveNoConflicts (all_segments sorted.now.kept) }
+    ensures { IfOk result (λ edges. MakesLand sorted.now edges lines.old.items lines.new.items) }
+{
+    add_sorted(alloc, sorted, lines)?;
+    kept_land(alloc, sorted.kept.as_slice(), lines)
+}
+
+/// The same. What was sorted out goes.
 fn land_of(alloc: Global, sorted: Sorted, lines: &mut Vec<CoastLine>) -> Result<Edges, OutOfMemory>
     requires { HaveNoConflicts (all_segments sorted.kept) }
     ensures { IfOk result (λ edges. MakesLand sorted edges lines.old.items lines.new.items) }
 {
-    add_sorted(alloc, &sorted, lines)?;
-    let land = land(alloc, sorted.kept.as_slice())?;
-    add_land(alloc, &land, lines)?;
-    Ok(land.edges)
+    sorted_land(alloc, &sorted, lines)
 }
 
 /// The edges of land that come of coastline ways. Lines tell of all that is amiss with them.

@@ -1,10 +1,9 @@
 -- The tags of a way that is lent are those of its area.
-use Rattle.std.proofs.Common.{◌≡◌, List, ℤ, Option, None, Some, ap, sym}
+use Rattle.std.proofs.Common.{◌≡◌, List, ℤ, Option, None, Some, ap}
 use Rattle.std.specs.Option.{option_and_then}
 use Rattle.osm_elements.specs.declared.object.Object.{Object}
 use Rattle.osm_elements.specs.declared.object.Object.TheVariants as object
 use Rattle.osm_elements.specs.declared.object.ObjectKind.TheVariants.{Way}
-use Rattle.osm_elements.specs.declared.object.Tag.{Tag}
 use Rattle.osm_objects.specs.Candidates.{area_tags}
 use Rattle.osm_objects.specs.Objects.{WayParts, object_at, way_in, way_of}
 use Rattle.osm_area.specs.Feature.{feature_tags}

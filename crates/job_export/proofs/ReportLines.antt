@@ -1,7 +1,7 @@
 -- The report lines of a candidate, one after the other.
-use Rattle.std.proofs.Common.{◌≡◌, ◌∙◌, refl, sym, ap, subst, get_or, ℕ, ◌+◌, ◌<◌, ◌≤◌, length, take, drop, Bool, true, false, List, [], ◌∷◌, ◌++◌, map, All, Option, None, Some, Result, Ok, Err, append_assoc, append-nil, arith}
-use Rattle.std.specs.List.{flat_map, slice_get}
-use Rattle.std.proofs.lemmas.List.{take_all, take_more, drop_more, take-append-drop, map-append}
+use Rattle.std.proofs.Common.{◌≡◌, ◌∙◌, refl, sym, ap, subst, get_or, ℕ, ◌+◌, ◌<◌, length, take, drop, List, [], ◌∷◌, ◌++◌, map, All, Option, None, Some, Result, Ok, Err, append_assoc, append-nil, arith}
+use Rattle.std.specs.List.{flat_map}
+use Rattle.std.proofs.lemmas.List.{take_more, take-append-drop, map-append}
 use Rattle.std.proofs.lemmas.List.Elements.{All-drop}
 use Rattle.std.proofs.lemmas.Grind.{flat_map-append}
 use Rattle.osm_elements.specs.declared.object.ObjectRef.{ObjectRef}
@@ -9,7 +9,7 @@ use Rattle.osm_host.specs.Outside.{Outside}
 use Rattle.osm_host.specs.declared.host.Failed.{Failed}
 use Rattle.osm_job.specs.Prefix.{IsPrefix}
 use Rattle.osm_job.specs.Sent.{Sent, to_output, to_report}
-use Rattle.osm_job.specs.Writes.{Added, Wrote}
+use Rattle.osm_job.specs.Writes.{Wrote}
 use Rattle.osm_job.proofs.Prefixes.{prefix_behind, prefix_of_longer}
 use Rattle.osm_job.proofs.Writes.{added_both, nothing_added}
 use Rattle.osm_objects.specs.Problem.{IsOfItsKind}
