@@ -1,7 +1,7 @@
 //! Candidates and coastline ways among the objects of a store, and the tags and ids of areas.
 
 use crate::reading::{NODE, RELATION, WAY, are_tags, at, store_of};
-use osm_elements::{ObjectRef, Text};
+use osm_elements::{ObjectKind, ObjectRef, Text};
 use osm_objects::{Choice, Keys, Store, area_id};
 use std::alloc::Global;
 use std::test::Fail;
