@@ -54,64 +54,77 @@ fn keep(alloc: Global, lines: &str, cuts: &str, wanted: &str) -> Result<bool, Fa
     Ok(run_along(&half, wanted))
 }
 
+const TOUCHED: &str = "0,0 8,0 8,8 0,8 4,4 0,0";
+
+const WITH_A_NODE_MORE: &str = "0,0 8,0 8,4 8,8 0,8 4,4 0,0";
+
+const TWO_TRIANGLES: &str = "0,0 8,0 4,4 0,0; 4,4 8,8 0,8 4,4";
+
+/// Lines, their cuts, and what these keep.
+const AT_TOUCHED_NODES: [(&str, &str, &str); 8] = [
+    (TOUCHED, "x<4", "0,0 4,0 4,4 0,0; 4,4 4,8 0,8 4,4"),
+    (TOUCHED, "x>4", "4,0 8,0 8,8 4,8 4,0"),
+    (TOUCHED, "x<4 y<4", "0,0 4,0 4,4 0,0"),
+    (TOUCHED, "x<4 y>4", "4,4 4,8 0,8 4,4"),
+    (WITH_A_NODE_MORE, "x<4", "0,0 4,0 4,4 0,0; 4,4 4,8 0,8 4,4"),
+    (WITH_A_NODE_MORE, "x>4", "4,0 8,0 8,4 8,8 4,8 4,0"),
+    (TWO_TRIANGLES, "x<4", "0,0 4,0 4,4 0,0; 4,4 4,8 0,8 4,4"),
+    (TWO_TRIANGLES, "x>4", "4,0 8,0 4,4 4,0; 4,4 8,8 4,8 4,4"),
+];
+
 #[test]
 fn halves_at_touched_nodes(rt: HostRuntime) -> Result<(), Fail> {
-    let touched = "0,0 8,0 8,8 0,8 4,4 0,0";
-    let with_a_node_more = "0,0 8,0 8,4 8,8 0,8 4,4 0,0";
-    let two_triangles = "0,0 8,0 4,4 0,0; 4,4 8,8 0,8 4,4";
-    let rows = [
-        (touched, "x<4", "0,0 4,0 4,4 0,0; 4,4 4,8 0,8 4,4"),
-        (touched, "x>4", "4,0 8,0 8,8 4,8 4,0"),
-        (touched, "x<4 y<4", "0,0 4,0 4,4 0,0"),
-        (touched, "x<4 y>4", "4,4 4,8 0,8 4,4"),
-        (with_a_node_more, "x<4", "0,0 4,0 4,4 0,0; 4,4 4,8 0,8 4,4"),
-        (with_a_node_more, "x>4", "4,0 8,0 8,4 8,8 4,8 4,0"),
-        (two_triangles, "x<4", "0,0 4,0 4,4 0,0; 4,4 4,8 0,8 4,4"),
-        (two_triangles, "x>4", "4,0 8,0 4,4 4,0; 4,4 8,8 4,8 4,4"),
-    ];
-    for (lines, cuts, wanted) in rows {
+    for &(lines, cuts, wanted) in &AT_TOUCHED_NODES {
         assert!(rt; keep(rt.alloc(), lines, cuts, wanted)?, "{cuts} of {lines}");
     }
     Ok(())
 }
+
+const CORNER: &str = "0,0 8,0 8,4 4,4 4,8 0,8 0,0";
+
+const RUN: &str = "0,0 8,0 8,2 8,5 8,8 0,8 0,0";
+
+/// Lines, their cuts, and what these keep.
+const ALONG_EDGES: [(&str, &str, &str); 9] = [
+    (CORNER, "x<4", "0,0 4,0 4,8 0,8 0,0"),
+    (CORNER, "x>4", "4,0 8,0 8,4 4,4 4,0"),
+    (RUN, "x<8", "0,0 8,0 8,8 0,8 0,0"),
+    (RUN, "x>8", ""),
+    (RUN, "y<5", "0,0 8,0 8,2 8,5 0,5 0,0"),
+    (RUN, "y>3", "0,3 8,3 8,5 8,8 0,8 0,3"),
+    (RUN, "x<9", RUN),
+    (RUN, "y<-1", ""),
+    (RUN, "y>-1", RUN),
+];
 
 #[test]
 fn halves_along_edges_and_beside(rt: HostRuntime) -> Result<(), Fail> {
-    let corner = "0,0 8,0 8,4 4,4 4,8 0,8 0,0";
-    let run = "0,0 8,0 8,2 8,5 8,8 0,8 0,0";
-    let rows = [
-        (corner, "x<4", "0,0 4,0 4,8 0,8 0,0"),
-        (corner, "x>4", "4,0 8,0 8,4 4,4 4,0"),
-        (run, "x<8", "0,0 8,0 8,8 0,8 0,0"),
-        (run, "x>8", ""),
-        (run, "y<5", "0,0 8,0 8,2 8,5 0,5 0,0"),
-        (run, "y>3", "0,3 8,3 8,5 8,8 0,8 0,3"),
-        (run, "x<9", run),
-        (run, "y<-1", ""),
-        (run, "y>-1", run),
-    ];
-    for (lines, cuts, wanted) in rows {
+    for &(lines, cuts, wanted) in &ALONG_EDGES {
         assert!(rt; keep(rt.alloc(), lines, cuts, wanted)?, "{cuts} of {lines}");
     }
     Ok(())
 }
 
+const SLOPE: &str = "0,0 25,0 100,0 100,3 0,2 0,0";
+
+const TRIANGLE: &str = "0,0 3,0 1,2 0,0";
+
+/// Lines, their cuts, and what these keep.
+const WITH_FRACTIONS: [(&str, &str, &str); 9] = [
+    (SLOPE, "x<50", "0,0 25,0 50,0 50,5/2 0,2 0,0"),
+    (SLOPE, "x<50 x<25", "0,0 25,0 25,9/4 0,2 0,0"),
+    (SLOPE, "x<50 x>25", "25,0 50,0 50,5/2 25,9/4 25,0"),
+    (SLOPE, "x<50 x<50", "0,0 25,0 50,0 50,5/2 0,2 0,0"),
+    (SLOPE, "x<50 x>50", ""),
+    (SLOPE, "x<50 y>2", "0,2 50,2 50,5/2 0,2"),
+    (TRIANGLE, "y<1", "0,0 3,0 2,1 1/2,1 0,0"),
+    (TRIANGLE, "y<1 y<1", "0,0 3,0 2,1 1/2,1 0,0"),
+    (TRIANGLE, "y<1 x<1", "0,0 1,0 1,1 1/2,1 0,0"),
+];
+
 #[test]
 fn halves_with_fractional_ends(rt: HostRuntime) -> Result<(), Fail> {
-    let slope = "0,0 25,0 100,0 100,3 0,2 0,0";
-    let triangle = "0,0 3,0 1,2 0,0";
-    let rows = [
-        (slope, "x<50", "0,0 25,0 50,0 50,5/2 0,2 0,0"),
-        (slope, "x<50 x<25", "0,0 25,0 25,9/4 0,2 0,0"),
-        (slope, "x<50 x>25", "25,0 50,0 50,5/2 25,9/4 25,0"),
-        (slope, "x<50 x<50", "0,0 25,0 50,0 50,5/2 0,2 0,0"),
-        (slope, "x<50 x>50", ""),
-        (slope, "x<50 y>2", "0,2 50,2 50,5/2 0,2"),
-        (triangle, "y<1", "0,0 3,0 2,1 1/2,1 0,0"),
-        (triangle, "y<1 y<1", "0,0 3,0 2,1 1/2,1 0,0"),
-        (triangle, "y<1 x<1", "0,0 1,0 1,1 1/2,1 0,0"),
-    ];
-    for (lines, cuts, wanted) in rows {
+    for &(lines, cuts, wanted) in &WITH_FRACTIONS {
         assert!(rt; keep(rt.alloc(), lines, cuts, wanted)?, "{cuts} of {lines}");
     }
     Ok(())

@@ -90,22 +90,24 @@ fn count_below(list: &ChunkedList<u64>, bound: u64) -> usize {
     list.partition_point(|item: &u64| *item < bound)
 }
 
+/// A bound, and how many of the even numbers are below it.
+const BELOW: [(u64, usize); 8] = [
+    (0, 0),
+    (1, 1),
+    (2, 1),
+    (2047, 1024),
+    (2048, 1024),
+    (4097, 2049),
+    (5998, 2999),
+    (6000, 3000),
+];
+
 #[test]
 fn a_search_in_chunks(rt: HostRuntime) -> Result<(), Fail> {
     let none = ChunkedList::new(rt.alloc());
     assert_eq!(rt; count_below(&none, 5), 0);
     let list = evens(rt.alloc())?;
-    let rows = [
-        (0, 0),
-        (1, 1),
-        (2, 1),
-        (2047, 1024),
-        (2048, 1024),
-        (4097, 2049),
-        (5998, 2999),
-        (6000, 3000),
-    ];
-    for (bound, count) in rows {
+    for &(bound, count) in &BELOW {
         assert_eq!(rt; count_below(&list, bound), count, "{bound}");
     }
     Ok(())

@@ -30,15 +30,17 @@ fn reads(host: &mut StdHost, name: &str) -> Option<[Option<usize>; 2]> {
     }
 }
 
+/// The name of an input, and what two reads of it give.
+const READS: [(&str, Option<[Option<usize>; 2]>); 3] = [
+    ("absent.txt", None),
+    ("there.txt", Some([Some(3), Some(0)])),
+    // a folder is no input
+    (".", Some([None, None])),
+];
+
 /// Asserts what inputs give where a file of three bytes is there.
 fn assert_read(rt: &impl Abort, host: &mut StdHost) {
-    let rows = [
-        ("absent.txt", None),
-        ("there.txt", Some([Some(3), Some(0)])),
-        // a folder is no input
-        (".", Some([None, None])),
-    ];
-    for (name, told) in rows {
+    for &(name, told) in &READS {
         assert_eq!(rt; reads(host, name), told, "{name}");
     }
 }
@@ -120,20 +122,21 @@ fn answers(host: &mut MemoryHost, answers: [Option<usize>; 3], faults: [u64; 3])
         && host.open_output("old", false).is_err()
 }
 
+/// The most bytes of a call, the room, the call that fails, and then the answers and the counts of faults.
+const BOUNDS: [(usize, usize, u64, [Option<usize>; 3], [u64; 3]); 8] = [
+    (9, 99, 0, [Some(5), Some(6), Some(2)], [0, 0, 0]),
+    (2, 99, 0, [Some(2), Some(2), Some(2)], [0, 0, 0]),
+    (9, 9, 0, [Some(5), Some(2), None], [0, 0, 1]),
+    (9, 3, 0, [Some(5), None, None], [1, 0, 2]),
+    (9, 2, 0, [None, Some(2), None], [2, 0, 1]),
+    (9, 99, 1, [None, Some(6), Some(2)], [1, 0, 0]),
+    (9, 99, 2, [None, Some(6), Some(2)], [0, 1, 0]),
+    (9, 99, 5, [Some(5), Some(6), None], [0, 0, 1]),
+];
+
 #[test]
 fn room_most_and_numbers_bound_a_host_over_memory(rt: HostRuntime) -> Result<(), Fail> {
-    // most, room, the call that fails, and then the answers and the counts of faults
-    let rows = [
-        (9, 99, 0, [Some(5), Some(6), Some(2)], [0, 0, 0]),
-        (2, 99, 0, [Some(2), Some(2), Some(2)], [0, 0, 0]),
-        (9, 9, 0, [Some(5), Some(2), None], [0, 0, 1]),
-        (9, 3, 0, [Some(5), None, None], [1, 0, 2]),
-        (9, 2, 0, [None, Some(2), None], [2, 0, 1]),
-        (9, 99, 1, [None, Some(6), Some(2)], [1, 0, 0]),
-        (9, 99, 2, [None, Some(6), Some(2)], [0, 1, 0]),
-        (9, 99, 5, [Some(5), Some(6), None], [0, 0, 1]),
-    ];
-    for (most, room, call, wanted, faults) in rows {
+    for &(most, room, call, wanted, faults) in &BOUNDS {
         let mut host = host_of(rt.alloc(), most, room, call)?;
         assert!(rt;
             answers(&mut host, wanted, faults),

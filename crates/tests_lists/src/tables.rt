@@ -24,33 +24,37 @@ fn letters_of_each_kind_of_object(rt: HostRuntime) {
     }
 }
 
+/// A kind of problem, its word and its code.
+const PROBLEMS: [(u8, Option<&str>, Option<u16>); 6] = [
+    (0, None, None),
+    (1, Some("missing way"), Some(PROBLEM)),
+    (6, Some("odd node"), Some(PROBLEM)),
+    (7, Some("named twice"), Some(NOTE)),
+    (10, Some("has role outer in an inner ring"), Some(NOTE)),
+    (11, None, None),
+];
+
 #[test]
 fn words_of_problems_and_notes(rt: HostRuntime) {
-    let rows = [
-        (0, None, None),
-        (1, Some("missing way"), Some(PROBLEM)),
-        (6, Some("odd node"), Some(PROBLEM)),
-        (7, Some("named twice"), Some(NOTE)),
-        (10, Some("has role outer in an inner ring"), Some(NOTE)),
-        (11, None, None),
-    ];
-    for (kind, word, code) in rows {
+    for &(kind, word, code) in &PROBLEMS {
         assert_eq!(rt; problem_word(kind), word, "{kind}");
         assert_eq!(rt; problem_code(kind), code, "{kind}");
     }
 }
 
+/// A kind of line of a coast, and its word.
+const COAST_WORDS: [(u8, Option<&str>); 6] = [
+    (0, None),
+    (1, Some("missing node")),
+    (5, Some("is not closed, from")),
+    (12, Some("vanished")),
+    (13, Some("was cut from")),
+    (14, None),
+];
+
 #[test]
 fn words_of_coast_lines(rt: HostRuntime) {
-    let rows = [
-        (0, None),
-        (1, Some("missing node")),
-        (5, Some("is not closed, from")),
-        (12, Some("vanished")),
-        (13, Some("was cut from")),
-        (14, None),
-    ];
-    for (kind, word) in rows {
+    for &(kind, word) in &COAST_WORDS {
         assert_eq!(rt; coast_word(kind), word, "{kind}");
     }
     for kind in 0..15 {

@@ -43,20 +43,22 @@ fn fractions(p: Point) -> [[i128; 2]; 2] {
     }
 }
 
+/// A segment, a line, x and y of their meeting as numerator and denominator, and whether both are whole.
+const IN_LOWEST_TERMS: [(&str, &str, [[i128; 2]; 2], bool); 9] = [
+    ("0,0 4,2", "x=2", [[2, 1], [1, 1]], true),
+    ("0,0 4,2", "x=1", [[1, 1], [1, 2]], false),
+    ("0,0 4,2", "x=4", [[4, 1], [2, 1]], true),
+    ("-4,-2 0,0", "x=-1", [[-1, 1], [-1, 2]], false),
+    ("5,-7 -5,8", "x=3", [[3, 1], [-4, 1]], true),
+    ("0,0 2,4", "y=1", [[1, 2], [1, 1]], false),
+    ("-3,-5 3,5", "y=-1", [[-3, 5], [-1, 1]], false),
+    ("-6,-4 6,4", "y=-2", [[-3, 1], [-2, 1]], true),
+    ("7,0 -7,9", "y=6", [[-7, 3], [6, 1]], false),
+];
+
 #[test]
 fn cut_points_in_lowest_terms(rt: HostRuntime) -> Result<(), Fail> {
-    let rows = [
-        ("0,0 4,2", "x=2", [[2, 1], [1, 1]], true),
-        ("0,0 4,2", "x=1", [[1, 1], [1, 2]], false),
-        ("0,0 4,2", "x=4", [[4, 1], [2, 1]], true),
-        ("-4,-2 0,0", "x=-1", [[-1, 1], [-1, 2]], false),
-        ("5,-7 -5,8", "x=3", [[3, 1], [-4, 1]], true),
-        ("0,0 2,4", "y=1", [[1, 2], [1, 1]], false),
-        ("-3,-5 3,5", "y=-1", [[-3, 5], [-1, 1]], false),
-        ("-6,-4 6,4", "y=-2", [[-3, 1], [-2, 1]], true),
-        ("7,0 -7,9", "y=6", [[-7, 3], [6, 1]], false),
-    ];
-    for (ends, line, wanted, whole) in rows {
+    for &(ends, line, wanted, whole) in &IN_LOWEST_TERMS {
         let p = met(ends, cut(line))?;
         let is_whole = matches!(p, Point::Lattice(_));
         assert!(rt;
@@ -73,36 +75,40 @@ fn next_numbers(p: &Point) -> [i64; 4] {
     [x, ceiling_at(p, Axis::X), y, ceiling_at(p, Axis::Y)]
 }
 
+/// A segment, a line, and the whole numbers below and above x and then y of their meeting.
+const NEXT_NUMBERS: [(&str, &str, [i64; 4]); 5] = [
+    ("0,0 4,2", "x=1", [1, 1, 0, 1]),
+    ("-4,-2 0,0", "x=-1", [-1, -1, -1, 0]),
+    ("-4,-2 0,0", "x=-2", [-2, -2, -1, -1]),
+    ("7,0 -7,9", "y=6", [-3, -2, 6, 6]),
+    ("-7,0 7,9", "y=6", [2, 3, 6, 6]),
+];
+
 #[test]
 fn whole_numbers_next_to_coordinates(rt: HostRuntime) -> Result<(), Fail> {
-    let rows = [
-        ("0,0 4,2", "x=1", [1, 1, 0, 1]),
-        ("-4,-2 0,0", "x=-1", [-1, -1, -1, 0]),
-        ("-4,-2 0,0", "x=-2", [-2, -2, -1, -1]),
-        ("7,0 -7,9", "y=6", [-3, -2, 6, 6]),
-        ("-7,0 7,9", "y=6", [2, 3, 6, 6]),
-    ];
-    for (ends, line, wanted) in rows {
+    for &(ends, line, wanted) in &NEXT_NUMBERS {
         let p = met(ends, cut(line))?;
         assert_eq!(rt; next_numbers(&p), wanted, "{ends} at {line}");
     }
     Ok(())
 }
 
+/// A segment, a line, another line, and the order of the meeting against that one.
+const AGAINST_LINES: [(&str, &str, &str, Ordering); 9] = [
+    ("0,0 4,2", "x=1", "y=0", Ordering::Greater),
+    ("0,0 4,2", "x=1", "y=1", Ordering::Less),
+    ("0,0 4,2", "x=1", "x=1", Ordering::Equal),
+    ("-4,-2 0,0", "x=-1", "y=0", Ordering::Less),
+    ("-4,-2 0,0", "x=-1", "y=-1", Ordering::Greater),
+    ("7,0 -7,9", "y=6", "x=-2", Ordering::Less),
+    ("7,0 -7,9", "y=6", "x=-3", Ordering::Greater),
+    ("-6,-4 6,4", "y=-2", "x=-3", Ordering::Equal),
+    ("-6,-4 6,4", "y=-2", "x=-2", Ordering::Less),
+];
+
 #[test]
 fn points_against_lines(rt: HostRuntime) -> Result<(), Fail> {
-    let rows = [
-        ("0,0 4,2", "x=1", "y=0", Ordering::Greater),
-        ("0,0 4,2", "x=1", "y=1", Ordering::Less),
-        ("0,0 4,2", "x=1", "x=1", Ordering::Equal),
-        ("-4,-2 0,0", "x=-1", "y=0", Ordering::Less),
-        ("-4,-2 0,0", "x=-1", "y=-1", Ordering::Greater),
-        ("7,0 -7,9", "y=6", "x=-2", Ordering::Less),
-        ("7,0 -7,9", "y=6", "x=-3", Ordering::Greater),
-        ("-6,-4 6,4", "y=-2", "x=-3", Ordering::Equal),
-        ("-6,-4 6,4", "y=-2", "x=-2", Ordering::Less),
-    ];
-    for (ends, line, other, order) in rows {
+    for &(ends, line, other, order) in &AGAINST_LINES {
         let p = met(ends, cut(line))?;
         assert_eq!(rt;
             compare_to_cut(&p, cut(other)),

@@ -25,31 +25,35 @@ const RISING: &str = "-1800000000,-900000000 1800000000,900000000";
 
 const FALLING: &str = "1800000000,-900000000 -1800000000,900000000";
 
+/// Coordinates, and whether a location has them.
+const RANGES: [(i64, i64, bool); 6] = [
+    (WEST, SOUTH, true),
+    (EAST, NORTH, true),
+    (WEST - 1, 0, false),
+    (EAST + 1, 0, false),
+    (0, SOUTH - 1, false),
+    (0, NORTH + 1, false),
+];
+
 #[test]
 fn ranges_of_locations(rt: HostRuntime) {
-    let rows = [
-        (WEST, SOUTH, true),
-        (EAST, NORTH, true),
-        (WEST - 1, 0, false),
-        (EAST + 1, 0, false),
-        (0, SOUTH - 1, false),
-        (0, NORTH + 1, false),
-    ];
-    for (x, y, valid) in rows {
+    for &(x, y, valid) in &RANGES {
         assert_eq!(rt; Loc::new(x, y).is_some(), valid, "at {x} {y}");
     }
 }
 
+/// A segment by its ends, and the lesser of them.
+const LESSER_ENDS: [(&str, &str); 5] = [
+    ("9,0 0,1", "9,0"),
+    ("0,1 9,0", "9,0"),
+    ("9,0 5,1", "9,0"),
+    ("5,1 9,0", "9,0"),
+    ("5,1 0,1", "0,1"),
+];
+
 #[test]
 fn segments_from_their_lesser_end(rt: HostRuntime) -> Result<(), Fail> {
-    let rows = [
-        ("9,0 0,1", "9,0"),
-        ("0,1 9,0", "9,0"),
-        ("9,0 5,1", "9,0"),
-        ("5,1 9,0", "9,0"),
-        ("5,1 0,1", "0,1"),
-    ];
-    for (ends, lesser) in rows {
+    for &(ends, lesser) in &LESSER_ENDS {
         assert_eq!(rt; seg(ends)?.a, loc(lesser)?, "{ends}");
     }
     assert!(rt; Seg::new(loc("0,1")?, loc("0,1")?).is_none());
@@ -74,17 +78,19 @@ fn orientations(rt: HostRuntime) -> Result<(), Fail> {
     Ok(())
 }
 
+/// A segment, a location, and on which side of its line this stands.
+const SIDES: [(&str, &str, Ordering); 6] = [
+    ("0,0 4,2", "2,2", Ordering::Less),
+    ("0,0 4,2", "8,4", Ordering::Equal),
+    ("0,0 4,2", "2,0", Ordering::Greater),
+    (RISING, "-1800000000,900000000", Ordering::Less),
+    (FALLING, "0,0", Ordering::Equal),
+    (RISING, "1800000000,-900000000", Ordering::Greater),
+];
+
 #[test]
 fn sides_of_lines(rt: HostRuntime) -> Result<(), Fail> {
-    let rows = [
-        ("0,0 4,2", "2,2", Ordering::Less),
-        ("0,0 4,2", "8,4", Ordering::Equal),
-        ("0,0 4,2", "2,0", Ordering::Greater),
-        (RISING, "-1800000000,900000000", Ordering::Less),
-        (FALLING, "0,0", Ordering::Equal),
-        (RISING, "1800000000,-900000000", Ordering::Greater),
-    ];
-    for (ends, p, side) in rows {
+    for &(ends, p, side) in &SIDES {
         assert_eq!(rt; compare_to_line(loc(p)?, seg(ends)?), side, "{p} of {ends}");
     }
     Ok(())
@@ -96,23 +102,25 @@ fn is_conflict(first: &str, second: &str, kind: Option<Kind>) -> Result<bool, Fa
     Ok(conflict(s, t) == kind && conflict(t, s) == kind)
 }
 
+/// What two segments show, the segments, and how they conflict.
+const KINDS: [(&str, &str, &str, Option<Kind>); 12] = [
+    ("equal", "0,0 1,1", "1,1 0,0", None),
+    ("touching ends", "0,0 1,1", "1,1 2,0", None),
+    ("apart", "0,0 1,1", "3,0 0,3", None),
+    ("parallel", "0,0 4,4", "0,1 4,5", None),
+    ("in line, apart", "0,0 1,0", "2,0 3,0", None),
+    ("in line, touching", "0,0 1,0", "1,0 3,0", None),
+    ("an end inside", "0,0 4,0", "2,0 2,2", CROSSING),
+    ("crossing", "0,0 2,2", "0,2 2,0", CROSSING),
+    ("diagonals of the world", RISING, FALLING, CROSSING),
+    ("in line, inside", "0,0 4,0", "1,0 3,0", OVERLAP),
+    ("in line from one end", "0,0 0,4", "0,0 0,2", OVERLAP),
+    ("in line, shifted", "0,0 4,4", "2,2 6,6", OVERLAP),
+];
+
 #[test]
 fn kinds_of_conflict(rt: HostRuntime) -> Result<(), Fail> {
-    let rows = [
-        ("equal", "0,0 1,1", "1,1 0,0", None),
-        ("touching ends", "0,0 1,1", "1,1 2,0", None),
-        ("apart", "0,0 1,1", "3,0 0,3", None),
-        ("parallel", "0,0 4,4", "0,1 4,5", None),
-        ("in line, apart", "0,0 1,0", "2,0 3,0", None),
-        ("in line, touching", "0,0 1,0", "1,0 3,0", None),
-        ("an end inside", "0,0 4,0", "2,0 2,2", CROSSING),
-        ("crossing", "0,0 2,2", "0,2 2,0", CROSSING),
-        ("diagonals of the world", RISING, FALLING, CROSSING),
-        ("in line, inside", "0,0 4,0", "1,0 3,0", OVERLAP),
-        ("in line from one end", "0,0 0,4", "0,0 0,2", OVERLAP),
-        ("in line, shifted", "0,0 4,4", "2,2 6,6", OVERLAP),
-    ];
-    for (name, first, second, kind) in rows {
+    for &(name, first, second, kind) in &KINDS {
         assert!(rt; is_conflict(first, second, kind)?, "{name}");
     }
     Ok(())
@@ -175,14 +183,16 @@ fn shared(first: &str, second: &str) -> Result<Seg, Fail> {
     }
 }
 
+/// Two segments that overlap, and what they share.
+const SHARED: [(&str, &str, &str); 3] = [
+    ("0,0 4,0", "1,0 3,0", "1,0 3,0"),
+    ("0,0 4,4", "6,6 2,2", "2,2 4,4"),
+    ("0,0 0,2", "0,4 0,0", "0,0 0,2"),
+];
+
 #[test]
 fn shared_segments(rt: HostRuntime) -> Result<(), Fail> {
-    let rows = [
-        ("0,0 4,0", "1,0 3,0", "1,0 3,0"),
-        ("0,0 4,4", "6,6 2,2", "2,2 4,4"),
-        ("0,0 0,2", "0,4 0,0", "0,0 0,2"),
-    ];
-    for (first, second, wanted) in rows {
+    for &(first, second, wanted) in &SHARED {
         assert_eq!(rt;
             shared(first, second)?,
             seg(wanted)?,
@@ -200,21 +210,23 @@ fn rounded(num: i128, den: u64) -> Option<i64> {
     Some(round(Frac::new(num, den)))
 }
 
+/// A fraction, and the whole number that it is rounded to.
+const ROUNDED: [(i128, u64, i64); 10] = [
+    (1, 2, 1),
+    (-1, 2, 0),
+    (-3, 2, -1),
+    (1, 3, 0),
+    (2, 3, 1),
+    (-2, 3, -1),
+    (5, 2, 3),
+    (9, 4, 2),
+    (10_000_000, 3, 3_333_333),
+    (-3_600_000_000, 1, -3_600_000_000),
+];
+
 #[test]
 fn rounding(rt: HostRuntime) {
-    let rows = [
-        (1, 2, 1),
-        (-1, 2, 0),
-        (-3, 2, -1),
-        (1, 3, 0),
-        (2, 3, 1),
-        (-2, 3, -1),
-        (5, 2, 3),
-        (9, 4, 2),
-        (10_000_000, 3, 3_333_333),
-        (-3_600_000_000, 1, -3_600_000_000),
-    ];
-    for (num, den, want) in rows {
+    for &(num, den, want) in &ROUNDED {
         assert_eq!(rt; rounded(num, den), Some(want), "{num}/{den}");
     }
 }

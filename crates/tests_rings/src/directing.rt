@@ -19,48 +19,50 @@ fn is_taken(edges: &[Edge], step: (Loc, Loc)) -> bool {
     edges.iter().any(|e| e.from == from && e.to == to)
 }
 
+/// What rings show, and the rings, each in its direction.
+const DIRECTED: [(&str, &str); 10] = [
+    ("touching triangle", "0,0 4,0 4,4 0,4 0,0; 0,0 1,2 2,1 0,0"),
+    (
+        "two crescents",
+        "0,0 4,0 4,2 2,2 2,4 0,4 0,0; 4,2 6,2 6,6 2,6 2,4 4,4 4,2",
+    ),
+    (
+        "four nested squares",
+        "0,0 9,0 9,9 0,9 0,0; 1,1 1,8 8,8 8,1 1,1; 2,2 7,2 7,7 2,7 2,2; 3,3 3,6 6,6 6,3 3,3",
+    ),
+    (
+        "a horizontal step where the left side ends",
+        "0,0 4,0 4,4 2,4 2,2 0,2 0,0",
+    ),
+    (
+        "a square at the height of the tips beside it",
+        "0,0 2,0 1,2 0,0; 3,2 5,2 5,4 3,4 3,2; 6,0 8,0 7,2 6,0",
+    ),
+    (
+        "a hole that begins between two long sides",
+        "0,0 9,1 9,9 0,0; 4,2 5,4 6,3 4,2",
+    ),
+    (
+        "a star of four",
+        "0,0 3,-4 4,-3 0,0; 0,0 4,3 3,4 0,0; 0,0 -3,4 -4,3 0,0; 0,0 -4,-3 -3,-4 0,0",
+    ),
+    (
+        "a star of six",
+        "0,0 3,-4 4,-3 0,0; 0,0 4,3 3,4 0,0; 0,0 -3,4 -4,3 0,0; 0,0 -4,-3 -3,-4 0,0; 0,0 -1,-5 1,-5 0,0; 0,0 1,5 -1,5 0,0",
+    ),
+    (
+        "two rings side by side at their least node",
+        "0,0 3,1 2,3 0,0; 0,0 -2,3 -3,1 0,0",
+    ),
+    (
+        "three rings nested at their least node",
+        "0,0 9,0 9,9 0,9 0,0; 0,0 2,8 8,2 0,0; 0,0 6,3 3,6 0,0",
+    ),
+];
+
 #[test]
 fn edges_have_the_printed_directions(rt: HostRuntime) -> Result<(), Fail> {
-    let rows = [
-        ("touching triangle", "0,0 4,0 4,4 0,4 0,0; 0,0 1,2 2,1 0,0"),
-        (
-            "two crescents",
-            "0,0 4,0 4,2 2,2 2,4 0,4 0,0; 4,2 6,2 6,6 2,6 2,4 4,4 4,2",
-        ),
-        (
-            "four nested squares",
-            "0,0 9,0 9,9 0,9 0,0; 1,1 1,8 8,8 8,1 1,1; 2,2 7,2 7,7 2,7 2,2; 3,3 3,6 6,6 6,3 3,3",
-        ),
-        (
-            "a horizontal step where the left side ends",
-            "0,0 4,0 4,4 2,4 2,2 0,2 0,0",
-        ),
-        (
-            "a square at the height of the tips beside it",
-            "0,0 2,0 1,2 0,0; 3,2 5,2 5,4 3,4 3,2; 6,0 8,0 7,2 6,0",
-        ),
-        (
-            "a hole that begins between two long sides",
-            "0,0 9,1 9,9 0,0; 4,2 5,4 6,3 4,2",
-        ),
-        (
-            "a star of four",
-            "0,0 3,-4 4,-3 0,0; 0,0 4,3 3,4 0,0; 0,0 -3,4 -4,3 0,0; 0,0 -4,-3 -3,-4 0,0",
-        ),
-        (
-            "a star of six",
-            "0,0 3,-4 4,-3 0,0; 0,0 4,3 3,4 0,0; 0,0 -3,4 -4,3 0,0; 0,0 -4,-3 -3,-4 0,0; 0,0 -1,-5 1,-5 0,0; 0,0 1,5 -1,5 0,0",
-        ),
-        (
-            "two rings side by side at their least node",
-            "0,0 3,1 2,3 0,0; 0,0 -2,3 -3,1 0,0",
-        ),
-        (
-            "three rings nested at their least node",
-            "0,0 9,0 9,9 0,9 0,0; 0,0 2,8 8,2 0,0; 0,0 6,3 3,6 0,0",
-        ),
-    ];
-    for (name, printed) in rows {
+    for &(name, printed) in &DIRECTED {
         assert!(rt; keep_directions(rt.alloc(), printed)?, "{name}");
     }
     Ok(())

@@ -33,99 +33,106 @@ fn come_in_rings(alloc: Global, lines: &str, cuts: &str, wanted: &str) -> Result
     are_cut(alloc, edges.as_slice(), wanted)
 }
 
+/// What lines show, and the lines: outer rings counterclockwise, inner ones clockwise. Each line is a ring.
+const TOUCHED: [(&str, &str); 4] = [
+    ("square", "0,0 1,0 1,1 0,1 0,0"),
+    ("touching triangle", "0,0 4,0 4,4 0,4 0,0; 0,0 1,2 2,1 0,0"),
+    (
+        "two crescents",
+        "0,0 4,0 4,2 2,2 2,4 0,4 0,0; 4,2 6,2 6,6 2,6 2,4 4,4 4,2",
+    ),
+    (
+        "three triangles round a node",
+        "0,0 4,1 3,3 0,0; 0,0 -1,4 -3,3 0,0; -2,-4 2,-4 0,0 -2,-4",
+    ),
+];
+
 #[test]
 fn rings_round_touched_nodes(rt: HostRuntime) -> Result<(), Fail> {
-    // Outer rings counterclockwise, inner ones clockwise. Each line is a ring.
-    for (name, lines) in [
-        ("square", "0,0 1,0 1,1 0,1 0,0"),
-        ("touching triangle", "0,0 4,0 4,4 0,4 0,0; 0,0 1,2 2,1 0,0"),
-        (
-            "two crescents",
-            "0,0 4,0 4,2 2,2 2,4 0,4 0,0; 4,2 6,2 6,6 2,6 2,4 4,4 4,2",
-        ),
-        (
-            "three triangles round a node",
-            "0,0 4,1 3,3 0,0; 0,0 -1,4 -3,3 0,0; -2,-4 2,-4 0,0 -2,-4",
-        ),
-    ] {
+    for &(name, lines) in &TOUCHED {
         assert!(rt; come_in_rings(rt.alloc(), lines, "", lines)?, "{name}");
     }
     Ok(())
 }
+
+/// What lines show, and the lines. Edges come in order of their lower ends, which isn't that of a walk. Each line is a ring.
+const FEW_EDGES: [(&str, &str); 8] = [
+    ("triangle", "0,0 1,2 -1,1 0,0"),
+    ("triangle whose last edge comes second", "0,0 1,0 0,1 0,0"),
+    (
+        "two triangles, one above the other",
+        "0,0 1,0 0,1 0,0; 0,5 1,5 0,6 0,5",
+    ),
+    (
+        "two whose edges come by turns",
+        "0,0 4,2 0,4 0,0; 10,1 14,3 10,5 10,1",
+    ),
+    (
+        "three whose edges come by turns",
+        "0,0 4,3 0,6 0,0; 10,1 14,4 10,7 10,1; 20,2 24,5 20,8 20,2",
+    ),
+    ("two that touch", "0,0 4,0 4,4 0,4 0,0; 0,0 1,2 2,1 0,0"),
+    (
+        "one below them",
+        "0,0 4,0 4,4 0,4 0,0; 0,0 1,2 2,1 0,0; 9,-2 10,-2 9,-1 9,-2",
+    ),
+    (
+        "one above them",
+        "0,0 4,0 4,4 0,4 0,0; 0,0 1,2 2,1 0,0; 9,5 10,5 9,6 9,5",
+    ),
+];
 
 #[test]
 fn rings_of_few_edges(rt: HostRuntime) -> Result<(), Fail> {
-    // Edges come in order of their lower ends, which isn't that of a walk. Each line is a ring.
-    for (name, lines) in [
-        ("triangle", "0,0 1,2 -1,1 0,0"),
-        ("triangle whose last edge comes second", "0,0 1,0 0,1 0,0"),
-        (
-            "two triangles, one above the other",
-            "0,0 1,0 0,1 0,0; 0,5 1,5 0,6 0,5",
-        ),
-        (
-            "two whose edges come by turns",
-            "0,0 4,2 0,4 0,0; 10,1 14,3 10,5 10,1",
-        ),
-        (
-            "three whose edges come by turns",
-            "0,0 4,3 0,6 0,0; 10,1 14,4 10,7 10,1; 20,2 24,5 20,8 20,2",
-        ),
-        ("two that touch", "0,0 4,0 4,4 0,4 0,0; 0,0 1,2 2,1 0,0"),
-        (
-            "one below them",
-            "0,0 4,0 4,4 0,4 0,0; 0,0 1,2 2,1 0,0; 9,-2 10,-2 9,-1 9,-2",
-        ),
-        (
-            "one above them",
-            "0,0 4,0 4,4 0,4 0,0; 0,0 1,2 2,1 0,0; 9,5 10,5 9,6 9,5",
-        ),
-    ] {
+    for &(name, lines) in &FEW_EDGES {
         assert!(rt; come_in_rings(rt.alloc(), lines, "", lines)?, "{name}");
     }
     Ok(())
 }
 
+/// What lines show, the lines, their cuts, and the rings that are left.
+const AT_FRACTIONS: [(&str, &str, &str, &str); 6] = [
+    (
+        "a side that is cut twice",
+        "0,0 25,0 100,0 100,3 0,2 0,0",
+        "x<50 x<25",
+        "0,0 25,0 25,9/4 0,2 0,0",
+    ),
+    (
+        "cuts on both sides",
+        "0,0 25,0 100,0 100,3 0,2 0,0",
+        "x<50 x>25",
+        "25,0 50,0 50,5/2 25,9/4 25,0",
+    ),
+    (
+        "cuts along both axes",
+        "0,0 3,0 1,2 0,0",
+        "y<1 x<1",
+        "0,0 1,0 1,1 1/2,1 0,0",
+    ),
+    (
+        "two fractional ends below",
+        "0,0 3,0 1,3 0,0",
+        "y>1",
+        "1/3,1 7/3,1 1,3 1/3,1",
+    ),
+    (
+        "two triangles that touch on the line",
+        "0,0 8,0 4,4 0,0; 4,4 8,8 0,8 4,4",
+        "x<4",
+        "0,0 4,0 4,4 0,0; 4,4 4,8 0,8 4,4",
+    ),
+    (
+        "two lobes that are cut off",
+        "0,0 3,3 6,0 3,6 0,0",
+        "y<1",
+        "0,0 1,1 1/2,1 0,0; 5,1 6,0 11/2,1 5,1",
+    ),
+];
+
 #[test]
 fn rings_at_fractional_points(rt: HostRuntime) -> Result<(), Fail> {
-    for (name, lines, cuts, wanted) in [
-        (
-            "a side that is cut twice",
-            "0,0 25,0 100,0 100,3 0,2 0,0",
-            "x<50 x<25",
-            "0,0 25,0 25,9/4 0,2 0,0",
-        ),
-        (
-            "cuts on both sides",
-            "0,0 25,0 100,0 100,3 0,2 0,0",
-            "x<50 x>25",
-            "25,0 50,0 50,5/2 25,9/4 25,0",
-        ),
-        (
-            "cuts along both axes",
-            "0,0 3,0 1,2 0,0",
-            "y<1 x<1",
-            "0,0 1,0 1,1 1/2,1 0,0",
-        ),
-        (
-            "two fractional ends below",
-            "0,0 3,0 1,3 0,0",
-            "y>1",
-            "1/3,1 7/3,1 1,3 1/3,1",
-        ),
-        (
-            "two triangles that touch on the line",
-            "0,0 8,0 4,4 0,0; 4,4 8,8 0,8 4,4",
-            "x<4",
-            "0,0 4,0 4,4 0,0; 4,4 4,8 0,8 4,4",
-        ),
-        (
-            "two lobes that are cut off",
-            "0,0 3,3 6,0 3,6 0,0",
-            "y<1",
-            "0,0 1,1 1/2,1 0,0; 5,1 6,0 11/2,1 5,1",
-        ),
-    ] {
+    for &(name, lines, cuts, wanted) in &AT_FRACTIONS {
         assert!(rt; come_in_rings(rt.alloc(), lines, cuts, wanted)?, "{name}");
     }
     Ok(())

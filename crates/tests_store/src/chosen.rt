@@ -1,7 +1,7 @@
 //! Candidates and coastline ways among the objects of a store, and the tags and ids of areas.
 
 use crate::reading::{NODE, RELATION, WAY, are_tags, at, store_of};
-use osm_elements::{ObjectRef, Text};
+use osm_elements::{ObjectKind, ObjectRef, Text};
 use osm_objects::{Choice, Keys, Store, area_id};
 use std::alloc::Global;
 use std::test::Fail;
@@ -95,22 +95,25 @@ fn are_chosen_by(
     Ok(candidates_of(alloc, store, &choice)?.as_str() == words)
 }
 
+/// Keys of areas and of lines, whether what has neither is kept, and what is chosen.
+const CHOSEN: [(&str, &str, bool, &str); 6] = [
+    ("", "", false, "w1 w2 w3 w4 w7 w9 r1 "),
+    ("building", "highway", false, "w3 w4 w7 r1 "),
+    ("building", "", false, "w2 w3 w4 w7 r1 "),
+    ("", "highway", false, "w3 w4 w7 w9 r1 "),
+    ("", "highway", true, "w3 w4 w7 w9 r1 w10 "),
+    (
+        "landuse,building",
+        "natural,highway,highway",
+        true,
+        "w3 w4 w7 w9 r1 ",
+    ),
+];
+
 #[test]
 fn keys_choose_closed_ways(rt: HostRuntime) -> Result<(), Fail> {
     let store = store_of(rt.alloc(), KEYED)?;
-    for (areas, lines, keep_untagged, words) in [
-        ("", "", false, "w1 w2 w3 w4 w7 w9 r1 "),
-        ("building", "highway", false, "w3 w4 w7 r1 "),
-        ("building", "", false, "w2 w3 w4 w7 r1 "),
-        ("", "highway", false, "w3 w4 w7 w9 r1 "),
-        ("", "highway", true, "w3 w4 w7 w9 r1 w10 "),
-        (
-            "landuse,building",
-            "natural,highway,highway",
-            true,
-            "w3 w4 w7 w9 r1 ",
-        ),
-    ] {
+    for &(areas, lines, keep_untagged, words) in &CHOSEN {
         assert!(rt;
             are_chosen_by(rt.alloc(), &store, (areas, lines), keep_untagged, words)?,
             "by {areas} and {lines}"
@@ -159,22 +162,27 @@ fn tags_of_an_area(rt: HostRuntime) -> Result<(), Fail> {
     Ok(())
 }
 
+/// The greatest id whose area has one.
+const MOST: i64 = 4_611_686_018_427_387_903;
+
+/// A kind and an id, and the id of its area.
+const AREA_IDS: [(ObjectKind, i64, Option<i64>); 11] = [
+    (WAY, 7, Some(14)),
+    (RELATION, 5, Some(11)),
+    (WAY, -7, Some(-14)),
+    (RELATION, -7, Some(-15)),
+    (WAY, 0, Some(0)),
+    (RELATION, 0, Some(1)),
+    (WAY, MOST, Some(9_223_372_036_854_775_806)),
+    (RELATION, -MOST, Some(-9_223_372_036_854_775_807)),
+    (WAY, MOST + 1, None),
+    (RELATION, -MOST - 1, None),
+    (NODE, 1, None),
+];
+
 #[test]
 fn ids_of_areas(rt: HostRuntime) {
-    let most = 4_611_686_018_427_387_903;
-    for (kind, id, area) in [
-        (WAY, 7, Some(14)),
-        (RELATION, 5, Some(11)),
-        (WAY, -7, Some(-14)),
-        (RELATION, -7, Some(-15)),
-        (WAY, 0, Some(0)),
-        (RELATION, 0, Some(1)),
-        (WAY, most, Some(9_223_372_036_854_775_806)),
-        (RELATION, -most, Some(-9_223_372_036_854_775_807)),
-        (WAY, most + 1, None),
-        (RELATION, -most - 1, None),
-        (NODE, 1, None),
-    ] {
+    for &(kind, id, area) in &AREA_IDS {
         assert_eq!(rt; area_id(at(kind, id)), area, "at {id}");
     }
 }

@@ -33,23 +33,24 @@ fn text_of(alloc: Global, host: &mut MemoryHost, limit: u32) -> Result<Vec<u8>, 
     read_text(alloc, host, u64::from(limit))
 }
 
+/// The count of bytes, the most of a read, the limit, and whether they keep it.
+const LIMITS: [(usize, usize, u32, bool); 11] = [
+    (0, 9, 0, true),
+    (0, 9, 7, true),
+    (5, 9, 7, true),
+    (5, 2, 5, true),
+    (5, 9, 5, true),
+    (5, 2, 4, false),
+    (5, 9, 4, false),
+    (5, 9, 0, false),
+    (131_073, 200_000, 131_073, true),
+    (131_073, 200_000, 131_072, false),
+    (131_073, 40_000, 131_073, true),
+];
+
 #[test]
 fn a_text_is_read_within_its_limit(rt: HostRuntime) -> Result<(), Fail> {
-    // bytes, the most of a read, the limit, and whether they keep it
-    let rows: [(usize, usize, u32, bool); 11] = [
-        (0, 9, 0, true),
-        (0, 9, 7, true),
-        (5, 9, 7, true),
-        (5, 2, 5, true),
-        (5, 9, 5, true),
-        (5, 2, 4, false),
-        (5, 9, 4, false),
-        (5, 9, 0, false),
-        (131_073, 200_000, 131_073, true),
-        (131_073, 200_000, 131_072, false),
-        (131_073, 40_000, 131_073, true),
-    ];
-    for (count, most, limit, keeps) in rows {
+    for &(count, most, limit, keeps) in &LIMITS {
         let bytes = bytes_of(rt.alloc(), count)?;
         let mut host = host_of(rt.alloc(), &bytes, most, 0)?;
         match text_of(rt.alloc(), &mut host, limit) {

@@ -134,21 +134,23 @@ fn lines_of_pieces(rt: HostRuntime) -> Result<(), Fail> {
     Ok(())
 }
 
+/// Two segments, and the line of their conflict.
+const CONFLICTS: [([i64; 4], [i64; 4], &str); 2] = [
+    (
+        [0, 0, 10, 10],
+        [10, 0, 0, 5],
+        "error crossing 0.3333333 0.3333333 of 0 0,1 1 and 1 0,0 0.5\n",
+    ),
+    (
+        [0, 0, 40, 0],
+        [10, 0, 30, 0],
+        "error overlap 1 0,3 0 of 0 0,4 0 and 1 0,3 0\n",
+    ),
+];
+
 #[test]
 fn lines_of_conflicts(rt: HostRuntime) -> Result<(), Fail> {
-    let rows = [
-        (
-            [0, 0, 10, 10],
-            [10, 0, 0, 5],
-            "error crossing 0.3333333 0.3333333 of 0 0,1 1 and 1 0,0 0.5\n",
-        ),
-        (
-            [0, 0, 40, 0],
-            [10, 0, 30, 0],
-            "error overlap 1 0,3 0 of 0 0,4 0 and 1 0,3 0\n",
-        ),
-    ];
-    for (first, second, printed) in rows {
+    for &(first, second, printed) in &CONFLICTS {
         assert!(rt;
             prints_conflict(rt.alloc(), first, second, printed)?,
             "{printed}"

@@ -106,17 +106,19 @@ fn tags_print(alloc: Global, tags: &str, printed: &str) -> Result<bool, Fail> {
     prints_text(alloc, &[SQUARE], tags, None, &line)
 }
 
+/// Tags, and how they are printed in text.
+const TAGS: [(&str, &str); 6] = [
+    ("", ""),
+    ("name=Hütte|building=yes", " name=H%fc%tte,building=yes"),
+    ("b=1|a=2|b=3", " b=1,a=2,b=3"),
+    ("=|k=", " =,k="),
+    ("note=%,=@ ü\0\n", " note=%25%%2c%%3d%%40%%20%%fc%%0%%a%"),
+    ("q\"=\\\u{7f}\u{1f600}", " q\"=\\%7f%%1f600%"),
+];
+
 #[test]
 fn escaped_name_and_other_tags(rt: HostRuntime) -> Result<(), Fail> {
-    let rows = [
-        ("", ""),
-        ("name=Hütte|building=yes", " name=H%fc%tte,building=yes"),
-        ("b=1|a=2|b=3", " b=1,a=2,b=3"),
-        ("=|k=", " =,k="),
-        ("note=%,=@ ü\0\n", " note=%25%%2c%%3d%%40%%20%%fc%%0%%a%"),
-        ("q\"=\\\u{7f}\u{1f600}", " q\"=\\%7f%%1f600%"),
-    ];
-    for (tags, printed) in rows {
+    for &(tags, printed) in &TAGS {
         assert!(rt; tags_print(rt.alloc(), tags, printed)?, "{tags}");
     }
     Ok(())
@@ -130,29 +132,31 @@ fn properties_print(alloc: Global, tags: &str, printed: &str) -> Result<bool, Fa
     prints_json(alloc, &[], tags, None, &object)
 }
 
+/// Tags, and how they are printed in GeoJSON.
+const PROPERTIES: [(&str, &str); 6] = [
+    ("", "{}"),
+    (
+        "name=b|a=c|name=d|B=",
+        "{\"B\":\"\",\"a\":\"c\",\"name\":\"b\"}",
+    ),
+    ("ab=1|a=2", "{\"a\":\"2\",\"ab\":\"1\"}"),
+    (
+        "\"\\=\u{8}\u{c}\n\r\t",
+        "{\"\\\"\\\\\":\"\\b\\f\\n\\r\\t\"}",
+    ),
+    (
+        "k=\0\u{1}\u{b}\u{1f}\u{7f} /",
+        "{\"k\":\"\\u0000\\u0001\\u000b\\u001f\u{7f} /\"}",
+    ),
+    (
+        "ключ=\u{1f600}|straße=Hütte",
+        "{\"straße\":\"Hütte\",\"ключ\":\"\u{1f600}\"}",
+    ),
+];
+
 #[test]
 fn properties_of_tags(rt: HostRuntime) -> Result<(), Fail> {
-    let rows = [
-        ("", "{}"),
-        (
-            "name=b|a=c|name=d|B=",
-            "{\"B\":\"\",\"a\":\"c\",\"name\":\"b\"}",
-        ),
-        ("ab=1|a=2", "{\"a\":\"2\",\"ab\":\"1\"}"),
-        (
-            "\"\\=\u{8}\u{c}\n\r\t",
-            "{\"\\\"\\\\\":\"\\b\\f\\n\\r\\t\"}",
-        ),
-        (
-            "k=\0\u{1}\u{b}\u{1f}\u{7f} /",
-            "{\"k\":\"\\u0000\\u0001\\u000b\\u001f\u{7f} /\"}",
-        ),
-        (
-            "ключ=\u{1f600}|straße=Hütte",
-            "{\"straße\":\"Hütte\",\"ключ\":\"\u{1f600}\"}",
-        ),
-    ];
-    for (tags, printed) in rows {
+    for &(tags, printed) in &PROPERTIES {
         assert!(rt; properties_print(rt.alloc(), tags, printed)?, "{tags}");
     }
     Ok(())

@@ -1,6 +1,7 @@
 //! Rows that make calls: the answer of each is a text.
 
-use crate::form::{Field, RowFault, first_word, said, text_of};
+use crate::answers::Answer;
+use crate::form::{Field, first_word, said, text_of};
 use crate::telling::tell;
 use crate::{feeding, fronts, notation, objects, packed, reading, samples, words, written};
 use std::alloc::Global;
@@ -16,95 +17,101 @@ pub(crate) struct Call<'a> {
     pub(crate) text: &'a [u8],
 }
 
-impl<'a> Call<'a> {
-    /// The text, where it is UTF-8.
-    pub(crate) fn str(&self) -> Result<&'a str, RowFault> {
-        match str::from_utf8(self.text) {
-            Ok(text) => Ok(text),
-            Err(_) => Err(RowFault("a text that isn't UTF-8")),
-        }
+/// Adds the answer of a call.
+fn answer(alloc: Global, call: Call<'_>, told: &mut Answer) {
+    match call.word {
+        "fronts" => fronts::put_fronts(alloc, call, told),
+        "sampled" => samples::put_sampled(alloc, call, told),
+        "pieces" => feeding::put_pieces(alloc, call, told),
+        "fed" => feeding::put_fed(alloc, call, told),
+        "decimal" => reading::put_decimal(call, told),
+        "count" => reading::put_count(alloc, call.text, told),
+        "points" => reading::put_points(alloc, call.text, told),
+        "line" => objects::put_line(alloc, call.text, told),
+        word => answer_text(alloc, word, str::from_utf8(call.text).unwrap_or(""), told),
     }
 }
 
-/// Adds the answer of a call.
-fn answer(alloc: Global, call: Call<'_>, told: &mut String) -> Result<(), RowFault> {
-    match call.word {
-        "job" => words::put_job(alloc, call.str()?, told),
-        "command" => words::put_command(alloc, call.str()?, told),
-        "fronts" => fronts::put_fronts(alloc, call, told),
-        "sample" => samples::put_sample(alloc, call.str()?, told),
-        "sampled" => samples::put_sampled(alloc, call, told),
-        "line" => objects::put_line(alloc, call.text, told),
-        "count" => reading::put_count(alloc, call.text, told),
-        "decimal" => reading::put_decimal(call, told),
-        "keys" => reading::put_keys(alloc, call.str()?, told),
-        "points" => reading::put_points(alloc, call.text, told),
-        "rewritten" => written::put_rewritten(alloc, call.str()?, told),
-        "printed" => notation::put_printed(call.str()?, told),
-        "string" => notation::put_string(alloc, call.str()?, told),
-        "pieces" => feeding::put_pieces(alloc, call, told),
-        "fed" => feeding::put_fed(alloc, call, told),
-        _ => packed::answer(alloc, call.word, call.str()?, told),
+/// Adds the answer of a call on a text that is UTF-8.
+fn answer_text(alloc: Global, word: &str, text: &str, told: &mut Answer) {
+    match word {
+        "job" => words::put_job(alloc, text, told),
+        "command" => words::put_command(alloc, text, told),
+        "sample" => samples::put_sample(alloc, text, told),
+        "keys" => reading::put_keys(alloc, text, told),
+        "rewritten" => written::put_rewritten(alloc, text, told),
+        "printed" => notation::put_printed(text, told),
+        "string" => notation::put_string(alloc, text, told),
+        "references" => packed::put_references(alloc, text, told),
+        "tags" => packed::put_values(alloc, text, told),
+        "bytes" => packed::put_bytes(alloc, text, told),
+        _ => told.put("an unknown call"),
     }
 }
 
 /// Tells where the answer of a row's call, or those of its calls line by line, differ from what is wanted.
-pub(crate) fn tell_calls(
-    alloc: Global,
-    fields: &[Field<'_>],
-    told: &mut String,
-) -> Result<(), RowFault> {
-    let mut got = String::new(alloc);
-    let each = said(fields, "each");
-    if each.is_empty() {
-        answer_one(alloc, fields, &mut got)?;
-        return Ok(tell("out", text_of(fields, "out"), got.as_bytes(), told)?);
+pub(crate) fn tell_calls(alloc: Global, fields: &[Field<'_>], differences: &mut Answer) {
+    let field = if said(fields, "each").is_empty() {
+        "call"
+    } else {
+        "each"
+    };
+    let call = Call {
+        word: first_word(said(fields, field)).0,
+        by: said(fields, "by"),
+        text: text_of(fields, field),
+    };
+    if field == "call" {
+        tell_answer(alloc, call, text_of(fields, "out"), differences);
+    } else {
+        tell_answers(alloc, call, differences);
     }
-    answer_each(alloc, fields, &mut got)?;
-    Ok(tell("each", text_of(fields, "each"), got.as_bytes(), told)?)
 }
 
-/// Adds the answer of a row's call.
-fn answer_one(alloc: Global, fields: &[Field<'_>], got: &mut String) -> Result<(), RowFault> {
-    let call = Call {
-        word: first_word(said(fields, "call")).0,
-        by: said(fields, "by"),
-        text: text_of(fields, "call"),
-    };
-    answer(alloc, call, got)?;
-    if !got.is_empty() && !got.ends_with('\n') {
-        got.push('\n')?;
+/// Tells where the answer of a call differs from what is wanted.
+fn tell_answer(alloc: Global, call: Call<'_>, wanted: &[u8], differences: &mut Answer) {
+    let mut got = Answer::new(alloc);
+    answer(alloc, call, &mut got);
+    end_line(&mut got);
+    differences.is_whole &= got.is_whole;
+    tell("out", wanted, got.text.as_bytes(), differences);
+}
+
+/// Ends a text with a newline, unless it is empty or has one.
+fn end_line(text: &mut Answer) {
+    if !text.text.is_empty() && !text.text.ends_with('\n') {
+        text.put("\n");
     }
-    Ok(())
+}
+
+/// Tells where the answers of calls line by line differ from those that stand there.
+fn tell_answers(alloc: Global, calls: Call<'_>, differences: &mut Answer) {
+    let mut got = Answer::new(alloc);
+    answer_each(alloc, calls, &mut got);
+    differences.is_whole &= got.is_whole;
+    tell("each", calls.text, got.text.as_bytes(), differences);
 }
 
 /// Adds the calls of a row that makes one a line, each with its answer.
-fn answer_each(alloc: Global, fields: &[Field<'_>], got: &mut String) -> Result<(), RowFault> {
-    let Ok(lines) = str::from_utf8(text_of(fields, "each")) else {
-        return Err(RowFault("a text that isn't UTF-8"));
-    };
-    for line in lines.lines() {
-        let (text, _) = line.split_once(ARROW).unwrap_or((line, ""));
-        answer_line(alloc, fields, text, got)?;
+fn answer_each(alloc: Global, calls: Call<'_>, got: &mut Answer) {
+    for line in str::from_utf8(calls.text).unwrap_or("not UTF-8").lines() {
+        answer_line(alloc, calls, first_part(line), got);
     }
-    Ok(())
+}
+
+/// The text of a call in a line.
+fn first_part(line: &str) -> &str {
+    line.split_once(ARROW).unwrap_or((line, "")).0
 }
 
 /// Adds a call and its answer, as a line.
-fn answer_line(
-    alloc: Global,
-    fields: &[Field<'_>],
-    text: &str,
-    got: &mut String,
-) -> Result<(), RowFault> {
+fn answer_line(alloc: Global, calls: Call<'_>, text: &str, got: &mut Answer) {
+    got.put(text);
+    got.put(ARROW);
     let call = Call {
-        word: first_word(said(fields, "each")).0,
-        by: said(fields, "by"),
         text: text.as_bytes(),
+        ..calls
     };
-    got.push_str(text)?;
-    got.push_str(ARROW)?;
-    answer(alloc, call, got)?;
-    got.push('\n')?;
-    Ok(())
+    answer(alloc, call, got);
+    got.put("\n");
 }

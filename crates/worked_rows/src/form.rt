@@ -1,28 +1,13 @@
 //! The form of the rows: blocks of fields, each with words and a text.
 
-use std::alloc::{AllocError as OutOfMemory, AllocFailed, Global};
+use crate::answers::{Answer, NO_MEMORY};
+use std::alloc::Global;
 
 /// Each word that a field begins with.
 const WORDS: [&str; 13] = [
     "text", "row", "words", "input", "taken", "most", "fails", "out", "report", "ends", "call",
     "each", "by",
 ];
-
-/// Why a row can't be followed.
-#[derive(Clone, Copy)]
-pub(crate) struct RowFault(pub(crate) &'static str);
-
-impl From<OutOfMemory> for RowFault {
-    fn from(_: OutOfMemory) -> RowFault {
-        RowFault("out of memory")
-    }
-}
-
-impl<T: Drop> From<AllocFailed<T>> for RowFault {
-    fn from(_: AllocFailed<T>) -> RowFault {
-        RowFault("out of memory")
-    }
-}
 
 /// A field: the word that it begins with, what it says behind that, and its text.
 #[derive(Drop)]
@@ -66,63 +51,79 @@ pub(crate) fn text_of<'f>(fields: &'f [Field<'_>], word: &str) -> &'f [u8] {
     }
 }
 
+/// The text of a name.
+pub(crate) fn find_text<'t>(texts: &'t [Field<'_>], name: &str) -> Option<&'t [u8]> {
+    for text in texts {
+        if first_word(text.said).0 == name {
+            return Some(text.text.as_slice());
+        }
+    }
+    None
+}
+
 /// The first of words that are parted by spaces, and the others.
 pub(crate) fn first_word(words: &str) -> (&str, &str) {
     words.split_once(' ').unwrap_or((words, ""))
 }
 
-/// The number of these digits.
-pub(crate) fn number(digits: &str) -> Result<u64, RowFault> {
+/// The number of these digits, 0 where they are none; adds that this is so.
+pub(crate) fn number(digits: &str, faults: &mut Answer) -> u64 {
     match digits.parse::<u64>() {
-        Ok(number) => Ok(number),
-        Err(_) => Err(RowFault("no number where one has to stand")),
+        Ok(number) => number,
+        Err(_) => {
+            faults.put(" no number where one has to stand;");
+            0
+        }
     }
 }
 
-/// Adds a line of a block: the words of a field, and behind the first `|` a line of the last field's text. One that begins with
-/// `#` is a comment.
+/// Adds a line of a block, or what is wrong with it. A line has the words of a field, and behind the first `|` a line of the last
+/// field's text. One that begins with `#` is a comment.
 pub(crate) fn add_line<'a>(
     alloc: Global,
     line: &'a str,
     texts: &[Field<'_>],
     fields: &mut Vec<Field<'a>>,
-) -> Result<(), RowFault> {
+    faults: &mut Answer,
+) {
     if line.starts_with('#') {
-        return Ok(());
+        return;
     }
-    let Some((words, text)) = line.split_once('|') else {
-        return add_field(alloc, line.trim(), texts, fields);
-    };
-    add_field(alloc, words.trim(), texts, fields)?;
-    match fields.last_mut() {
-        Some(field) => add_text(text.strip_prefix(' ').unwrap_or(text), &mut field.text),
-        None => Err(RowFault("a text before the first field")),
+    let (words, text) = line.split_once('|').unwrap_or((line, ""));
+    add_field(alloc, words.trim(), texts, fields, faults);
+    if words.len() < line.len() {
+        add_to_last(text.strip_prefix(' ').unwrap_or(text), fields, faults);
     }
 }
 
-/// Adds a field of these words, where there are any, with the named texts that it calls. Each but an input stands once.
+/// Adds a field of these words, where there are any, with the named texts that it calls.
 fn add_field<'a>(
     alloc: Global,
     words: &'a str,
     texts: &[Field<'_>],
     fields: &mut Vec<Field<'a>>,
-) -> Result<(), RowFault> {
+    faults: &mut Answer,
+) {
     if words.is_empty() {
-        return Ok(());
+        return;
     }
     let (word, said) = first_word(words);
+    put_fault(word, fields, faults);
+    let text = Vec::new(alloc);
+    if fields.push(Field { word, said, text }).is_err() {
+        faults.put(NO_MEMORY);
+    }
+    add_named(texts, names_in(word, said), fields, faults);
+}
+
+/// Adds what is wrong with a field of this word: it isn't known, or stands twice. An input may stand twice.
+fn put_fault(word: &str, fields: &[Field<'_>], faults: &mut Answer) {
     if !WORDS.contains(&word) {
-        return Err(RowFault("a field that isn't known"));
+        faults.put(" a field that isn't known;");
     }
     if word != "input" && find(fields, word).is_some() {
-        return Err(RowFault("a field twice"));
+        faults.put(" a field twice;");
     }
-    let mut text = Vec::new(alloc);
-    add_named(texts, names_in(word, said), &mut text)?;
-    if fields.push(Field { word, said, text }).is_err() {
-        return Err(RowFault("out of memory"));
-    }
-    Ok(())
 }
 
 /// The names of texts in what a field says.
@@ -134,51 +135,55 @@ fn names_in<'a>(word: &str, said: &'a str) -> &'a str {
     }
 }
 
-/// Adds the texts of these names.
-fn add_named(texts: &[Field<'_>], names: &str, text: &mut Vec<u8>) -> Result<(), RowFault> {
+/// Adds the texts of these names to the last field.
+fn add_named(texts: &[Field<'_>], names: &str, fields: &mut [Field<'_>], faults: &mut Answer) {
     for name in names.split_whitespace() {
-        match find_text(texts, name) {
-            Some(named) => text.extend_from_slice(named)?,
-            None => return Err(RowFault("a name of no text before")),
+        if !add_one_named(texts, name, fields) {
+            faults.put(" a name of no text before;");
         }
     }
-    Ok(())
 }
 
-/// The text of a name.
-pub(crate) fn find_text<'t>(texts: &'t [Field<'_>], name: &str) -> Option<&'t [u8]> {
-    for text in texts {
-        if first_word(text.said).0 == name {
-            return Some(text.text.as_slice());
-        }
+/// Adds the text of a name to the last field, and says whether there is one.
+fn add_one_named(texts: &[Field<'_>], name: &str, fields: &mut [Field<'_>]) -> bool {
+    match (find_text(texts, name), fields.last_mut()) {
+        (Some(named), Some(field)) => field.text.extend_from_slice(named).is_ok(),
+        _ => false,
     }
-    None
 }
 
-/// Adds a line with the byte of each escape, and its newline unless it ends in `\`.
-fn add_text(line: &str, text: &mut Vec<u8>) -> Result<(), RowFault> {
+/// Adds a line to the text of the last field.
+fn add_to_last(line: &str, fields: &mut [Field<'_>], faults: &mut Answer) {
+    let is_added = match fields.last_mut() {
+        Some(field) => add_text(line, &mut field.text),
+        None => false,
+    };
+    if !is_added {
+        faults.put(" a text before the first field, or an escape without two hex digits;");
+    }
+}
+
+/// Adds a line with the byte of each escape, and its newline unless it ends in `\`. Says whether the escapes are right.
+fn add_text(line: &str, text: &mut Vec<u8>) -> bool {
     let (line, end) = match line.strip_suffix('\\') {
         Some(line) => (line, ""),
         None => (line, "\n"),
     };
+    let mut is_right = true;
     for (index, part) in line.split('\\').enumerate() {
-        if index == 0 {
-            text.extend_from_slice(part.as_bytes())?;
-        } else {
-            add_escaped(part, text)?;
-        }
+        is_right &= add_part(index > 0, part, text);
     }
-    text.extend_from_slice(end.as_bytes())?;
-    Ok(())
+    is_right && text.extend_from_slice(end.as_bytes()).is_ok()
 }
 
-/// Adds what stands behind a `\`: two hex digits for a byte, and what stands for itself.
-fn add_escaped(part: &str, text: &mut Vec<u8>) -> Result<(), RowFault> {
+/// Adds a part of a line. What stands behind a `\` is two hex digits for a byte, and what stands for itself.
+fn add_part(is_escaped: bool, part: &str, text: &mut Vec<u8>) -> bool {
+    if !is_escaped {
+        return text.extend_from_slice(part.as_bytes()).is_ok();
+    }
     let (digits, others) = part.split_at_checked(2).unwrap_or(("", ""));
-    let Ok(byte) = u8::from_str_radix(digits, 16) else {
-        return Err(RowFault("no hex digits behind an escape"));
-    };
-    text.extend_from_slice(&[byte])?;
-    text.extend_from_slice(others.as_bytes())?;
-    Ok(())
+    match u8::from_str_radix(digits, 16) {
+        Ok(byte) => { text.push(byte).is_ok() && text.extend_from_slice(others.as_bytes()).is_ok() }
+        Err(_) => false,
+    }
 }

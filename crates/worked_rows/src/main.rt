@@ -6,6 +6,7 @@
 //! how many rows went as wanted, and how many didn't. The status is 1 where one didn't.
 #![tactic(auto)]
 
+mod answers;
 mod calls;
 mod feeding;
 mod form;

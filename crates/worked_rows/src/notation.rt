@@ -1,30 +1,32 @@
 //! Decimals and strings as they are written.
 
-use crate::form::RowFault;
+use crate::answers::{Answer, NO_MEMORY};
 use osm_elements::Text;
 use osm_notation::{put_decimal, written};
 use std::alloc::Global;
 
 /// Adds the decimal of a number of units.
-pub(crate) fn put_printed(digits: &str, told: &mut String) -> Result<(), RowFault> {
+pub(crate) fn put_printed(digits: &str, told: &mut Answer) {
     let Ok(number) = digits.parse() else {
-        return Err(RowFault("no number"));
+        return told.put("no number");
     };
     let mut buf = [0; 24];
     let len = put_decimal(&mut buf, number);
-    put_bytes(&buf[..len], told)
+    told.put_bytes(&buf[..len]);
 }
 
 /// Adds a text as it is written.
-pub(crate) fn put_string(alloc: Global, text: &str, told: &mut String) -> Result<(), RowFault> {
-    let bytes = written(alloc, &Text::from_str(alloc, text)?)?;
-    put_bytes(&bytes, told)
+pub(crate) fn put_string(alloc: Global, text: &str, told: &mut Answer) {
+    match Text::from_str(alloc, text) {
+        Ok(text) => put_written(alloc, &text, told),
+        Err(_) => told.put(NO_MEMORY),
+    }
 }
 
-/// Adds bytes that are UTF-8.
-fn put_bytes(bytes: &[u8], told: &mut String) -> Result<(), RowFault> {
-    match str::from_utf8(bytes) {
-        Ok(text) => Ok(told.push_str(text)?),
-        Err(_) => Err(RowFault("bytes that aren't UTF-8")),
+/// Adds the bytes of a text as it is written.
+fn put_written(alloc: Global, text: &Text, told: &mut Answer) {
+    match written(alloc, text) {
+        Ok(bytes) => told.put_bytes(&bytes),
+        Err(_) => told.put(NO_MEMORY),
     }
 }

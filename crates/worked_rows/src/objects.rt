@@ -1,26 +1,27 @@
 //! What a line of OPL tells, in words.
 
-use crate::form::RowFault;
+use crate::answers::{Answer, NO_MEMORY};
 use opl_reader::{LineError, fault_text, read_line};
 use osm_elements::{Members, Object, ObjectKind, Refs, Tags};
 use osm_lattice::Loc;
-use std::alloc::{AllocError as OutOfMemory, Global};
-use std::fmt::Write;
+use std::alloc::Global;
 
 /// Adds what is read of a line: an object in words, `nothing`, or its fault and where this stands.
-pub(crate) fn put_line(alloc: Global, line: &[u8], told: &mut String) -> Result<(), RowFault> {
+pub(crate) fn put_line(alloc: Global, line: &[u8], told: &mut Answer) {
     match read_line(alloc, line) {
-        Ok(Some(object)) => Ok(put_object(&object, told)?),
-        Ok(None) => Ok(told.push_str("nothing")?),
+        Ok(Some(object)) => put_object(&object, told),
+        Ok(None) => told.put("nothing"),
         Err(LineError::Fault(fault)) => {
-            Ok(write!(told, "{} at {}", fault_text(fault.kind), fault.place)?)
+            told.put(fault_text(fault.kind));
+            told.put(" at ");
+            told.put_shown(&fault.place);
         }
-        Err(LineError::OutOfMemory) => Err(RowFault("out of memory")),
+        Err(LineError::OutOfMemory) => told.put(NO_MEMORY),
     }
 }
 
 /// Adds an object: its kind and id, whether it was deleted, its tags, and then its place, references or members.
-pub(crate) fn put_object(object: &Object, told: &mut String) -> Result<(), OutOfMemory> {
+pub(crate) fn put_object(object: &Object, told: &mut Answer) {
     match object {
         Object::Node {
             id,
@@ -28,8 +29,8 @@ pub(crate) fn put_object(object: &Object, told: &mut String) -> Result<(), OutOf
             tags,
             place,
         } => {
-            begin(told, ObjectKind::Node, *id, *live, tags)?;
-            put_place(told, *place)
+            begin(told, ObjectKind::Node, *id, *live, tags);
+            put_place(told, *place);
         }
         Object::Way {
             id,
@@ -37,8 +38,8 @@ pub(crate) fn put_object(object: &Object, told: &mut String) -> Result<(), OutOf
             tags,
             refs,
         } => {
-            begin(told, ObjectKind::Way, *id, *live, tags)?;
-            put_refs(told, refs)
+            begin(told, ObjectKind::Way, *id, *live, tags);
+            put_refs(told, refs);
         }
         Object::Relation {
             id,
@@ -46,23 +47,18 @@ pub(crate) fn put_object(object: &Object, told: &mut String) -> Result<(), OutOf
             tags,
             members,
         } => {
-            begin(told, ObjectKind::Relation, *id, *live, tags)?;
-            put_members(told, members)
+            begin(told, ObjectKind::Relation, *id, *live, tags);
+            put_members(told, members);
         }
     }
 }
 
 /// Adds the kind and the id of an object, whether it was deleted, and its tags.
-fn begin(
-    told: &mut String,
-    kind: ObjectKind,
-    id: i64,
-    live: bool,
-    tags: &Tags,
-) -> Result<(), OutOfMemory> {
-    write!(told, "{}{id}", letter(kind))?;
-    told.push_str(if live { "" } else { " deleted" })?;
-    put_tags(told, tags)
+fn begin(told: &mut Answer, kind: ObjectKind, id: i64, live: bool, tags: &Tags) {
+    told.put(letter(kind));
+    told.put_shown(&id);
+    told.put(if live { "" } else { " deleted" });
+    put_tags(told, tags);
 }
 
 /// The letter of a kind of object.
@@ -75,46 +71,52 @@ fn letter(kind: ObjectKind) -> &'static str {
 }
 
 /// Adds tags.
-fn put_tags(told: &mut String, tags: &Tags) -> Result<(), OutOfMemory> {
+fn put_tags(told: &mut Answer, tags: &Tags) {
     let mut others = tags.iter();
     for _ in 0..tags.len() {
         if let Some(tag) = others.next() {
-            write!(told, " {}={}", tag.key, tag.value)?;
+            told.put(" ");
+            told.put(tag.key);
+            told.put("=");
+            told.put(tag.value);
         }
     }
-    Ok(())
 }
 
 /// Adds a location, if there is one.
-fn put_place(told: &mut String, place: Option<Loc>) -> Result<(), OutOfMemory> {
-    match place {
-        Some(at) => write!(told, " at {},{}", at.x, at.y),
-        None => Ok(()),
+fn put_place(told: &mut Answer, place: Option<Loc>) {
+    if let Some(at) = place {
+        told.put(" at ");
+        put_location(told, at);
     }
+}
+
+/// Adds a location as `x,y` in units.
+pub(crate) fn put_location(told: &mut Answer, at: Loc) {
+    told.put_shown(&at.x);
+    told.put(",");
+    told.put_shown(&at.y);
 }
 
 /// Adds references, each with its own location.
-fn put_refs(told: &mut String, refs: &Refs) -> Result<(), OutOfMemory> {
+fn put_refs(told: &mut Answer, refs: &Refs) {
     for reference in refs.iter() {
-        write!(told, " n{}", reference.node)?;
-        put_place(told, reference.at)?;
+        told.put(" n");
+        told.put_shown(&reference.node);
+        put_place(told, reference.at);
     }
-    Ok(())
 }
 
 /// Adds members with their roles.
-fn put_members(told: &mut String, members: &Members) -> Result<(), OutOfMemory> {
+fn put_members(told: &mut Answer, members: &Members) {
     let mut others = members.iter();
     for _ in 0..members.len() {
         if let Some(member) = others.next() {
-            write!(
-                told,
-                " {}{} {}",
-                letter(member.kind),
-                member.id,
-                member.role
-            )?;
+            told.put(" ");
+            told.put(letter(member.kind));
+            told.put_shown(&member.id);
+            told.put(" ");
+            told.put(member.role);
         }
     }
-    Ok(())
 }

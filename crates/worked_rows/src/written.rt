@@ -1,22 +1,25 @@
 //! Lines of OPL, read and written again.
 
-use crate::form::RowFault;
+use crate::answers::Answer;
 use opl_reader::read_line;
 use opl_writer::{put_node, put_relation, put_way};
 use osm_elements::Object;
 use std::alloc::{AllocError as OutOfMemory, Global};
 
 /// Adds the lines of a text read and written again; those that tell no object are left out.
-pub(crate) fn put_rewritten(alloc: Global, text: &str, told: &mut String) -> Result<(), RowFault> {
+pub(crate) fn put_rewritten(alloc: Global, text: &str, told: &mut Answer) {
     let mut written = Vec::new(alloc);
     for line in text.lines() {
-        if let Ok(Some(object)) = read_line(alloc, line.as_bytes()) {
-            put(&mut written, &object)?;
-        }
+        told.is_whole &= add_again(alloc, line, &mut written);
     }
-    match str::from_utf8(&written) {
-        Ok(lines) => Ok(told.push_str(lines)?),
-        Err(_) => Err(RowFault("lines that aren't UTF-8")),
+    told.put_bytes(&written);
+}
+
+/// Adds a line read and written again, and says whether memory sufficed.
+fn add_again(alloc: Global, line: &str, written: &mut Vec<u8>) -> bool {
+    match read_line(alloc, line.as_bytes()) {
+        Ok(Some(object)) => put(written, &object).is_ok(),
+        _other => true,
     }
 }
 

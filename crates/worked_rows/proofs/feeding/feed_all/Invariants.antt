@@ -1,5 +1,5 @@
 use Rattle.std.proofs.Common.{◌≡◌, ◌+◌, length}
-use Rattle.worked_rows.proofs.feeding.told_by.Given as goal
+use Rattle.worked_rows.proofs.feeding.feed_all.Given as goal
 
 -- what was fed and what is left are the whole input
 abbrev pub invariant-loop-rest : goal.invariant-loop-rest
