@@ -117,7 +117,7 @@ impl Store {
     {
         match self.add_lent(&object) {
             Ok(Some(id)) => self.add_other(id, object)?,
-            Ok(None) => mem::drop(object),
+            Ok(None) => {}
             Err(error) => {
                 mem::drop(object);
                 return Err(error);
