@@ -138,14 +138,19 @@ impl<T: Copy> ChunkedList<T> {
 
     /// Where the items that pass a test end, if those that pass it stand before those that don't. It is looked for first where the
     /// list was changed last.
-    pub fn partition_point<F: Fn(&T) -> bool>(&self, test: F) -> usize
+    ///
+    /// The list stays as it is. What is looked at or changed next is looked for first where this ended.
+    pub fn partition_point<F: Fn(&T) -> bool>(&mut self, test: F) -> usize
         requires { F.IsAlwaysCallable test }
-        ensures within { result ≤ length self.now }
+        ensures kept { self.new ≡ self.old }
+        ensures within { result ≤ length self.old }
         ensures point { (p : T → Bool) → ((x : T) (told : Bool) → FnReturnsAt F.Fn test x told
-            → told ≡ p x) → IsPartitionedBy p self.now
-            → IsPartitionPoint (λ x. p x ≡ true) (λ x. p x ≡ false) self.now result }
+            → told ≡ p x) → IsPartitionedBy p self.old
+            → IsPartitionPoint (λ x. p x ≡ true) (λ x. p x ≡ false) self.old result }
     {
-        self.partition_point_near(self.changed, test)
+        let found = self.search_near(self.changed).point(self.changed, &test);
+        self.near = found.chunk;
+        found.place
     }
 
     /// What `partition_point` gives, looked for near a place first.
@@ -156,8 +161,14 @@ impl<T: Copy> ChunkedList<T> {
             → told ≡ p x) → IsPartitionedBy p self.now
             → IsPartitionPoint (λ x. p x ≡ true) (λ x. p x ≡ false) self.now result }
     {
-        let search = Search::around(&self.chunks, &self.starts, self.len, self.near, near);
-        search.point(near, &test)
+        self.search_near(near).point(near, &test).place
+    }
+
+    /// The items, looked for first near a place.
+    fn search_near(&self, near: usize) -> Search<'_, T>
+        ensures { result ≡ self.now }
+    {
+        Search::around(&self.chunks, &self.starts, self.len, self.near, near)
     }
 
     /// Takes out the items that don't pass a test.

@@ -14,6 +14,14 @@ use std::marker::Model;
 /// How many steps from a place are tried before all items are searched.
 const STEPS: usize = 4;
 
+/// Where a search ended.
+#[derive(Clone, Copy)]
+pub(crate) struct Found {
+    pub(crate) place: usize,
+    /// The chunk in which the place seems to be. Only speed rests on it.
+    pub(crate) chunk: usize,
+}
+
 /// The items of a list in chunks, and the chunk in which they are looked for first.
 #[derive(Drop)]
 pub(crate) struct Search<'a, T> {
@@ -92,16 +100,26 @@ impl<'a, T: Copy> Search<'a, T> {
     /// Where the items that pass end, looked for near a place first.
     ///
     /// Ways: up to four steps from the place; the chunk in which the end seems to lie; all others by halves.
-    pub(crate) fn point<F: Fn(&T) -> bool>(&self, near: usize, test: &F) -> usize
+    pub(crate) fn point<F: Fn(&T) -> bool>(&self, near: usize, test: &F) -> Found
         requires { F.IsAlwaysCallable test.now }
-        ensures within { result ≤ length self.now }
+        ensures within { result.place ≤ length self.now }
         ensures point { (p : T → Bool) → ((x : T) (told : Bool) → FnReturnsAt F.Fn test.now x told
             → told ≡ p x) → IsPartitionedBy p self.now
-            → IsPartitionPoint (λ x. p x ≡ true) (λ x. p x ≡ false) self.now result }
+            → IsPartitionPoint (λ x. p x ≡ true) (λ x. p x ≡ false) self.now result.place }
     {
         match self.point_close_to(near, test) {
-            Some(point) => point,
+            Some(place) => self.found_at(place),
             None => self.point_anywhere(test),
+        }
+    }
+
+    /// A place, found in the chunk that is looked at first.
+    fn found_at(&self, place: usize) -> Found
+        ensures { result.place ≡ place }
+    {
+        Found {
+            place,
+            chunk: self.near,
         }
     }
 
@@ -167,17 +185,27 @@ impl<'a, T: Copy> Search<'a, T> {
     }
 
     /// The place where the items that pass end, looked for by chunks first.
-    fn point_anywhere<F: Fn(&T) -> bool>(&self, test: &F) -> usize
+    fn point_anywhere<F: Fn(&T) -> bool>(&self, test: &F) -> Found
+        requires { F.IsAlwaysCallable test.now }
+        ensures within { result.place ≤ length self.now }
+        ensures point { (p : T → Bool) → ((x : T) (told : Bool) → FnReturnsAt F.Fn test.now x told
+            → told ≡ p x) → IsParted p self.now result.place }
+    {
+        let there = self.at_end_of_passing(test);
+        let guess = there.guess(test);
+        if there.passes_before(test, guess) && there.fails_from(test, guess) {
+            return there.found_at(guess);
+        }
+        self.found_at(self.point_by_halves(test))
+    }
+
+    /// The place where the items that pass end, looked for by halves.
+    fn point_by_halves<F: Fn(&T) -> bool>(&self, test: &F) -> usize
         requires { F.IsAlwaysCallable test.now }
         ensures within { result ≤ length self.now }
         ensures point { (p : T → Bool) → ((x : T) (told : Bool) → FnReturnsAt F.Fn test.now x told
             → told ≡ p x) → IsParted p self.now result }
     {
-        let there = self.at_end_of_passing(test);
-        let guess = there.guess(test);
-        if there.passes_before(test, guess) && there.fails_from(test, guess) {
-            return guess;
-        }
         let mut low = 0;
         let mut high = self.len;
         while low < high {

@@ -19,7 +19,7 @@ use Rattle.osm_sides.specs.PointPlaces.{HeightsNeverFall, place_among}
 use Rattle.osm_sides.specs.declared.places.Place.{Place}
 use Rattle.osm_sides.specs.Sweep.{AreEnds, IsSweptFrom, IsSweptTo, begins_by, ends_above}
 use Rattle.osm_sides.proofs.Statuses.{none-swept, risen, whole_row}
-use Rattle.osm_sides.proofs.SweptHeights.{begins-later, begins-parts, span-ends}
+use Rattle.osm_sides.proofs.SweptHeights.{begins-later, later-from, span-ends}
 
 all_stay : {X : Type 0} (f : X → Bool) (xs : List X) → All (λ x. f x ≡ true) xs → filter f xs ≡ xs
 all_stay f [] all = refl
@@ -29,18 +29,11 @@ all_stay f (x ∷ xs) all =
 level_height : (y z : ℤ) → lt_z y z ≡ false → lt_z z y ≡ false → z ≡ y
 level_height y z h k = grind (arith, ints)
 
-begun_clash : (b : Bool) → b ≡ false → b ≡ true → ⊥
-begun_clash b h k = cc (sym h ∙ k)
-
 module _ (segs ends status : List Seg) (rising : IsRising seg_cmp segs) (clear : conflicts_of segs ≡ []) (are : AreEnds segs ends) (k next : ℕ) (swept : IsSweptFrom segs ends k next status)
     (at : Loc) (low : lt_z at.y swept.height.y ≡ false) (later : (d : Seg) → k < length segs → begins_by at.y (get_or segs k d) ≡ false)
     (left : ℕ) (new : List Seg) (stay : new ≡ filter (ends_above at.y) status) (ended : AllWithin (λ t. ends_above at.y t ≡ false) ends 0 left) where
   later_all : AllWithin (λ t. begins_by at.y t ≡ false) segs k (length segs)
-  later_all j d h l = by (begins_by at.y (get_or segs j d)) refl
-    where
-      by : (b : Bool) → begins_by at.y (get_or segs j d) ≡ b → b ≡ false
-      by false e = refl
-      by true e = absurd (begun_clash (begins_by at.y (get_or segs k d)) (later d (omega arith)) (begins-parts segs rising at.y k j d h l e))
+  later_all j d h l = later-from segs rising at.y k (omega arith) (λ e. later e (omega arith)) j d h l
 
   higher : lt_z swept.height.y at.y ≡ true → (now : IsSweptFrom segs ends k left new) × (now.height.y ≡ at.y)
   higher up = (

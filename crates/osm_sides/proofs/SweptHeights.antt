@@ -1,5 +1,5 @@
 -- Heights at which segments begin and end.
-use Rattle.std.proofs.Common.{List, ap, arith, eq-or-lt_of_le, get_or, length, not, refl, subst, sym, true, false, [], ℕ, ℤ, ⊎_elim, ◌&&◌, ◌-ℤ◌, ◌<◌, ◌∙◌, ◌∷◌, ◌≡◌, ◌≤◌}
+use Rattle.std.proofs.Common.{Bool, List, ap, arith, eq-or-lt_of_le, get_or, length, not, refl, subst, sym, true, false, ℕ, ℤ, ⊎_elim, ◌&&◌, ◌+◌, ◌-ℤ◌, ◌<◌, ◌∙◌, ◌≡◌, ◌≤◌}
 use lib.Signed.{lt_z}
 use Rattle.std.specs.declared.cmp.Ordering.{Ordering}
 use Rattle.std.specs.declared.cmp.Ordering.TheVariants.{Less}
@@ -7,7 +7,7 @@ use Rattle.std.specs.Ordering.{int_cmp, ordering_then}
 use Rattle.std.specs.List.{AllWithin}
 use Rattle.std.specs.List.Sorted.{IsPartitionedBy}
 use Rattle.std.specs.Prelude.{negsuc, unsigned_abs, ◌≤ℤ◌}
-use Rattle.std.proofs.lemmas.Bool.{cases_lt, and_from, and_right}
+use Rattle.std.proofs.lemmas.Bool.{and_from, and_right}
 use Rattle.std.proofs.lemmas.Int.{ints}
 use Rattle.plane.specs.Height.{is_in_span}
 use Rattle.plane.specs.Sign.{Null, Plus, is_plus, sign}
@@ -68,12 +68,33 @@ begins-later y z a h k = grind (arith, ints)
 pub ends-sooner : (y z b : ℤ) → lt_z y z ≡ true → lt_z z b ≡ true → lt_z y b ≡ true
 ends-sooner y z b h k = grind (arith, ints)
 
+-- what has ended at one height has ended at a greater one, and at one that is no lower
+pub ended-below : (y z b : ℤ) → lt_z y z ≡ true → lt_z y b ≡ false → lt_z z b ≡ false
+ended-below y z b h k = grind (arith, ints)
+
+pub ended-still : (y z b : ℤ) → lt_z z y ≡ false → lt_z y b ≡ false → lt_z z b ≡ false
+ended-still y z b h k = grind (arith, ints)
+
 -- ---- lists in order of heights
+-- one item more
+pub one_more_within : (P : Seg → Type 0) (segs : List Seg) (k : ℕ) → AllWithin P segs 0 k → ((d : Seg) → P (get_or segs k d)) → AllWithin P segs 0 (k + 1)
+one_more_within P segs k all next i d h l = ⊎_elim
+    (λ (here : i ≡ k). subst (λ j. P (get_or segs j d)) (sym here) (next d))
+    (λ (before : i < k). all i d h before)
+    (eq-or-lt_of_le (omega arith))
+
 ends-before : (y a b : ℤ) → lt_z b a ≡ false → not (lt_z y b) ≡ true → not (lt_z y a) ≡ true
 ends-before y a b h k = grind (arith, ints)
 
 pub ends-parts : (y : ℤ) (ends : List Seg) → EndsNeverFall ends → IsPartitionedBy (λ t. not (ends_above y t)) ends
 ends-parts y ends rise i j d h l k = ends-before y (get_or ends i d).b.y (get_or ends j d).b.y (rise i j d h l) k
+
+ends-behind : (y a b : ℤ) → lt_z b a ≡ false → lt_z y a ≡ true → lt_z y b ≡ true
+ends-behind y a b h k = grind (arith, ints)
+
+-- those behind one that ends above end above
+pub above-from : (y : ℤ) (ends : List Seg) → EndsNeverFall ends → (k : ℕ) → ((d : Seg) → ends_above y (get_or ends k d) ≡ true) → AllWithin (λ t. ends_above y t ≡ true) ends k (length ends)
+above-from y ends rise k above j d h l = ends-behind y (get_or ends k d).b.y (get_or ends j d).b.y (rise k j d h l) (above d)
 
 begins-first : (y z : ℤ) (o o' : Ordering) → ordering_then (ordering_then (int_cmp y z) o) o' ≡ Less → y ≤ℤ z
 begins-first y z o o' h = grind (arith, ints)
@@ -100,17 +121,15 @@ module _ (segs : List Seg) (rising : IsRising seg_cmp segs) where
   pub begins-parts : (y : ℤ) → IsPartitionedBy (begins_by y) segs
   begins-parts y i j d h l k = begins-before y (get_or segs i d).a.y (get_or segs j d).a.y (low-or-same i j d h l) k
 
-  module _ (from to : ℕ) (y : ℤ) (inside : from < length segs) (first : (d : Seg) → (get_or segs from d).a.y ≡ y) (begun : AllWithin (λ t. begins_by y t ≡ true) segs 0 to) (later : AllWithin (λ t. begins_by y t ≡ false) segs to (length segs)) where
-    pub row-more : from < to
-    row-more = more-by segs refl inside
-      where
-        more-by : (xs : List Seg) → segs ≡ xs → from < length segs → from < to
-        more-by [] e h = absurd (omega (arith, ap length e))
-        more-by (s ∷ xs) e h = ⊎_elim
-            (λ (before : from < to). before)
-            (λ (behind : to ≤ from). let far = later from s behind h in let near = begins-level y (get_or segs from s).a.y (first s) in absurd (cc (sym near ∙ far)))
-            (cases_lt from to)
+  -- those behind one that begins higher begin higher
+  pub later-from : (y : ℤ) (k : ℕ) → k < length segs → ((d : Seg) → begins_by y (get_or segs k d) ≡ false) → AllWithin (λ t. begins_by y t ≡ false) segs k (length segs)
+  later-from y k inside later j d h l = by (begins_by y (get_or segs j d)) refl
+    where
+      by : (b : Bool) → begins_by y (get_or segs j d) ≡ b → begins_by y (get_or segs j d) ≡ false
+      by false e = e
+      by true e = absurd (let low = begins-parts y k j d h l e in let high = later d in cc (sym high ∙ low))
 
+  module _ (from to : ℕ) (y : ℤ) (inside : from < length segs) (first : (d : Seg) → (get_or segs from d).a.y ≡ y) (begun : AllWithin (λ t. begins_by y t ≡ true) segs 0 to) where
     pub row-level : to ≤ length segs → AllWithin (λ t. t.a.y ≡ y) segs from to
     row-level within k d h l =
         let t = get_or segs k d in

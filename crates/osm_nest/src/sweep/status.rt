@@ -67,7 +67,7 @@ fn search(status: &ChunkedList<RingEdge>, edge: &RingEdge, at: &Point) -> usize
     requires { is_within at.now edge.now ≡ true }
     ensures { result ≤ length status.now }
 {
-    status.partition_point(|other| seems_left(other, edge, at))
+    status.partition_point_near(status.last_changed(), |other| seems_left(other, edge, at))
 }
 
 /// Whether the edge at a place doesn't span the height.

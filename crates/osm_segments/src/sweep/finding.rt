@@ -33,14 +33,15 @@ fn find_near(status: &ChunkedList<Seg>, s: Seg) -> Option<usize>
     None
 }
 
-/// The place of a segment in the status of a sweep upwards, if it is found.
+/// The place of a segment in the status of a sweep upwards, if it is found. The status stays as it is.
 ///
 /// It is found near where the status changed last, or just after those that are left of it below its upper end.
 ///
 /// Ways: the four places next to where the status changed last; all others by a search.
-pub fn place_in_status(status: &ChunkedList<Seg>, s: Seg) -> Option<usize>
-    ensures inside { IfSome result (λ place. place < length status.now) }
-    ensures at { IfSome result (λ place. slice_index_or status.now place s ≡ s) }
+pub fn place_in_status(status: &mut ChunkedList<Seg>, s: Seg) -> Option<usize>
+    ensures kept { status.new ≡ status.old }
+    ensures inside { IfSome result (λ place. place < length status.old) }
+    ensures at { IfSome result (λ place. slice_index_or status.old place s ≡ s) }
 {
     if let Some(place) = find_near(status, s) {
         return Some(place);

@@ -58,16 +58,33 @@ fn leave_each(status: &mut ChunkedList<Seg>, ends: &[Seg], from: usize, to: usiz
     }
 }
 
+/// How many of the segments have ended by the height of `at`, if the first `next` have.
+// One by one from there: over a whole sweep that reads each end once, and a search reads far more.
+fn count_ended(ends: &[Seg], next: usize, at: Loc) -> usize
+    requires rise { EndsNeverFall ends.now }
+    requires ended { AllWithin (λ t. ends_above at.y t ≡ false) ends.now 0 next }
+    ensures within { result ≤ length ends.now }
+    ensures ended { AllWithin (λ t. ends_above at.y t ≡ false) ends.now 0 result }
+    ensures stay { AllWithin (λ t. ends_above at.y t ≡ true) ends.now result (length ends.now) }
+{
+    let mut count = next.min(ends.len());
+    while count < ends.len() && !is_above(ends[count], at) {
+        count += 1;
+    }
+    count
+}
+
 /// Takes out the segments that have ended by the height of `at`, the next ones in the list of ends.
 ///
 /// It gives the place of the first that hasn't.
 pub fn leave(status: &mut ChunkedList<Seg>, ends: &[Seg], next: usize, at: Loc) -> usize
     requires rise { EndsNeverFall ends.now }
+    requires ended { AllWithin (λ t. ends_above at.y t ≡ false) ends.now 0 next }
     requires remains { Remains (ends_above at.y) ends.now next status.old status.old }
     ensures stay { status.new ≡ filter (ends_above at.y) status.old }
     ensures ended { AllWithin (λ t. ends_above at.y t ≡ false) ends.now 0 result }
 {
-    let to = ends.partition_point(|t| !is_above(*t, at));
+    let to = count_ended(ends, next, at);
     leave_each(status, ends, next, to, at);
     to
 }

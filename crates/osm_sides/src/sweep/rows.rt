@@ -10,20 +10,21 @@ ghost use Rattle.osm_lattice.specs.Loc.{vector_of};
 ghost use Rattle.osm_lattice.specs.Seg.{edge_of, seg_cmp};
 ghost use Rattle.osm_segments.specs.Outlines.{IsOutline};
 ghost use Rattle.osm_sides.specs.SideTests.{counted, left_count, left_of, level, right_count};
-ghost use Rattle.osm_sides.specs.Sweep.{AreDirectedTo, IsEntered, IsRow};
+ghost use Rattle.osm_sides.specs.Sweep.{AreDirectedTo, IsEntered, IsRow, begins_by};
 
-use crate::sides::{is_above, is_counted, is_horizontal, is_left_of};
+use crate::sides::{begins_by, is_above, is_counted, is_horizontal, is_left_of};
 use chunked_list::ChunkedList;
 use osm_geom::{Edge, Loc, Seg};
 use std::alloc::AllocError as OutOfMemory;
 
-/// How many of the status don't count as right of `s`: these come first.
-fn place(status: &ChunkedList<Seg>, s: Seg) -> usize
-    requires { IsPartitionedBy (λ t. not (counted s t)) status.now }
-    ensures within { result ≤ length status.now }
-    ensures before { AllWithin (λ t. not (counted s t) ≡ true) status.now 0 result }
-    ensures after { AllWithin (λ t. not (counted s t) ≡ false) status.now result
-        (length status.now) }
+/// How many of the status don't count as right of `s`: these come first. The status stays as it is.
+fn place(status: &mut ChunkedList<Seg>, s: Seg) -> usize
+    requires { IsPartitionedBy (λ t. not (counted s t)) status.old }
+    ensures kept { status.new ≡ status.old }
+    ensures within { result ≤ length status.old }
+    ensures before { AllWithin (λ t. not (counted s t) ≡ true) status.old 0 result }
+    ensures after { AllWithin (λ t. not (counted s t) ≡ false) status.old result
+        (length status.old) }
 {
     status.partition_point(|t| !is_counted(s, *t))
 }
@@ -64,6 +65,23 @@ fn enter_each(
     Ok(())
 }
 
+/// Where those segments end that begin at the height of `at`, as the one at `from` does.
+fn end_of_row(segs: &[Seg], from: usize, at: Loc) -> usize
+    requires outline { IsOutline segs.now }
+    requires inside { from < length segs.now }
+    requires first { (d : Seg) → (slice_index_or segs.now from d).a ≡ at }
+    ensures more { from < result }
+    ensures within { result ≤ length segs.now }
+    ensures begun { AllWithin (λ t. begins_by at.y t ≡ true) segs.now 0 result }
+    ensures later { AllWithin (λ t. begins_by at.y t ≡ false) segs.now result (length segs.now) }
+{
+    let mut end = from + 1;
+    while end < segs.len() && begins_by(segs[end], at) {
+        end += 1;
+    }
+    end
+}
+
 /// Puts in the segments that begin at the height of `at`, as the one at `from` does, and gives the place after them.
 pub fn enter_row(
     status: &mut ChunkedList<Seg>,
@@ -77,7 +95,7 @@ pub fn enter_row(
     requires status { IsStatus edge_of (vector_of at) (take from segs.now) status.old }
     ensures { IfOk result (λ to. IsRow segs.now from to (vector_of at) status.new) }
 {
-    let to = segs.partition_point(|s| s.a.y <= at.y);
+    let to = end_of_row(segs, from, at);
     enter_each(status, segs, from, to, at)?;
     Ok(to)
 }

@@ -9,12 +9,19 @@ use Rattle.osm_lattice.specs.Seg.{edge_of}
 use Rattle.osm_sides.specs.Sweep.{begins_by}
 use Rattle.osm_sides.proofs.RisingSweeps.{arrived, not_lower}
 use Rattle.osm_sides.proofs.Statuses.{remaining, risen}
+use Rattle.osm_sides.proofs.SweptHeights.{ended-below, ended-still}
 use Rattle.osm_sides.proofs.sweep.rising.rise.Goals.{else-loop-begun-test, then-loop-begun-test+else-begins_by}
 use Rattle.osm_sides.proofs.sweep.rising.rise.Goals as goal
 
 pub leave-left-requires-clause-remains : goal.leave-left-requires-clause-remains
 leave-left-requires-clause-remains c =
     remaining c.args.segs.now c.requires.outline.rising c.requires.outline.clear c.args.ends.now c.requires.ends c.loop-begun.begun c.loop-begun.left c.loop-begun.status c.loop-begun.invariant.0 _
+
+pub leave-left-requires-clause-ended : goal.leave-left-requires-clause-ended
+leave-left-requires-clause-ended c i d h l =
+    let segs = c.args.segs.now in let k = c.loop-begun.begun in let s = c.index-segs-begun-in-loop-begun.result in let swept = c.loop-begun.invariant.0 in
+    let up = not-false-out _ (swept.swept.later k s (omega arith) c.loop-begun-test.true) in
+    ended-below swept.height.y (get_or segs k s).a.y (get_or c.args.ends.now i d).b.y up (swept.ended i d h l)
 
 pub enter_row-requires-clause-status : goal.enter_row-requires-clause-status
 enter_row-requires-clause-status c =
@@ -32,6 +39,10 @@ loop-begun-preserved c =
 pub leave-left-requires-2-clause-remains : goal.leave-left-requires-2-clause-remains
 leave-left-requires-2-clause-remains c =
     remaining c.args.segs.now c.requires.outline.rising c.requires.outline.clear c.args.ends.now c.requires.ends c.loop-begun.begun c.loop-begun.left c.loop-begun.status c.loop-begun.invariant.0 c.args.at.y
+
+pub leave-left-requires-2-clause-ended : goal.leave-left-requires-2-clause-ended
+leave-left-requires-2-clause-ended c i d h l =
+    let swept = c.loop-begun.invariant.0 in ended-still swept.height.y c.args.at.y (get_or c.args.ends.now i d).b.y c.loop-begun.invariant.1 (swept.ended i d h l)
 
 pub returns : goal.returns
 returns c =

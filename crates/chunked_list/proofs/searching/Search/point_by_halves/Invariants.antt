@@ -1,6 +1,6 @@
 use Rattle.std.proofs.Common.{◌-◌, ◌≡◌, ◌<◌, ◌≤◌, Bool, false, length, slice_index_or, true}
 use Rattle.std.specs.Fn.{FnReturnsAt}
-use Rattle.chunked_list.proofs.searching.Search.point_anywhere.Given as goal
+use Rattle.chunked_list.proofs.searching.Search.point_by_halves.Given as goal
 
 abbrev pub invariant-loop-low : goal.invariant-loop-low
 invariant-loop-low g l =
