@@ -86,7 +86,7 @@ fn evens(alloc: Global) -> Result<ChunkedList<u64>, Fail> {
 }
 
 /// How many numbers of a rising list are below a bound.
-fn count_below(list: &ChunkedList<u64>, bound: u64) -> usize {
+fn count_below(list: &mut ChunkedList<u64>, bound: u64) -> usize {
     list.partition_point(|item: &u64| *item < bound)
 }
 
@@ -104,11 +104,11 @@ const BELOW: [(u64, usize); 8] = [
 
 #[test]
 fn a_search_in_chunks(rt: HostRuntime) -> Result<(), Fail> {
-    let none = ChunkedList::new(rt.alloc());
-    assert_eq!(rt; count_below(&none, 5), 0);
-    let list = evens(rt.alloc())?;
+    let mut none = ChunkedList::new(rt.alloc());
+    assert_eq!(rt; count_below(&mut none, 5), 0);
+    let mut list = evens(rt.alloc())?;
     for &(bound, count) in &BELOW {
-        assert_eq!(rt; count_below(&list, bound), count, "{bound}");
+        assert_eq!(rt; count_below(&mut list, bound), count, "{bound}");
     }
     Ok(())
 }
