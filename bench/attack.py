@@ -75,7 +75,7 @@ class Attack:
     def run(self, words, data, statuses, stdout=subprocess.PIPE, **options):
         """One run over standard input; told where it ends as no run may."""
         try:
-            ended = subprocess.run([self.program, *words], input=data, stdout=stdout, stderr=subprocess.PIPE, timeout=20, **options)
+            ended = subprocess.run([self.program, *words], input=data, stdout=stdout, stderr=subprocess.PIPE, timeout=60, **options)
             status, report = ended.returncode, ended.stderr
         except subprocess.TimeoutExpired:
             status, report = "hangs", b""
