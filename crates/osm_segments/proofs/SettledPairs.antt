@@ -211,6 +211,18 @@ pub reduced_more : (segs : List Seg) (strip : Strip) (old new : List Places) (le
 reduced_more segs strip old new least left all kept first second later still settled =
     first later (λ p c. still p (kept p c)) (second later still settled)
 
+-- few were set aside, and settled with all
+pub aside_out : (segs : List Seg) (strip : Strip) (told : List Places) (few others all : List SegAt) → ((s : SegAt) → Contains all s → Contains few s ⊎ Contains others s) →
+    ((s t : SegAt) → Contains few s → Contains all t → IsSettled segs told strip s t) → IsReduced segs strip told others all
+aside_out segs strip told few others all whole with_all later kept settled s t a b =
+    ⊎_elim
+    (λ (k : Contains few s). settled_still segs told later strip s t kept (with_all s t k b))
+    (λ (i : Contains others s). ⊎_elim
+    (λ (k : Contains few t). turned_settled segs later strip t s (settled_still segs told later strip t s kept (with_all t s k a)))
+    (λ (j : Contains others t). settled s t i j)
+    (whole t b))
+    (whole s a)
+
 -- a row was taken out, and settled with all that is left
 module _ (segs : List Seg) (strip : Strip) (told : List Places) (row rest others all : List SegAt) (whole : (s : SegAt) → Contains all s → Contains row s ⊎ Contains rest s) (stand : StandInRow strip row)
     (with_rest : (s t : SegAt) → Contains row s → Contains rest t → IsSettled segs told strip s t) (with_others : (s t : SegAt) → Contains row s → Contains others t → IsSettled segs told strip s t) where

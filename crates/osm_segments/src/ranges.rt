@@ -2,6 +2,7 @@
 //!
 //! Heights are those of the tilted plane: a location is higher than another if it comes later, so no segment is level.
 
+pub mod aside;
 pub mod division;
 pub mod order;
 pub mod rows;

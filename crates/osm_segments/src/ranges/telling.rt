@@ -27,7 +27,7 @@ fn in_order(i: u32, j: u32) -> Places
 }
 
 /// Tries the segments at two places. It gives up at a conflict after `limit` others.
-fn try_pair(
+pub(crate) fn try_pair(
     told: &mut Vec<Places>,
     limit: usize,
     segs: &[Seg],

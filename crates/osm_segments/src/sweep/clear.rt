@@ -64,7 +64,7 @@ fn fits_between(status: &ChunkedList<Seg>, low: usize, high: usize, s: Seg) -> b
 }
 
 /// Puts a segment where it seems to belong, if it fits there.
-fn enter(status: &mut ChunkedList<Seg>, s: Seg) -> Result<bool, OutOfMemory>
+pub(crate) fn enter(status: &mut ChunkedList<Seg>, s: Seg) -> Result<bool, OutOfMemory>
     ensures { IfOk result (λ fits. fits ≡ true → IsPutBetween s status.old status.new) }
 {
     let place = status.partition_point(|t| !lies_right(s, *t));
@@ -110,7 +110,7 @@ fn leave(status: &mut ChunkedList<Seg>, s: Seg) -> bool
 /// Replaces a segment by one that begins where it ends.
 ///
 /// It does so if that one fits there and its two neighbours don't conflict with each other.
-fn go_on(status: &mut ChunkedList<Seg>, s: Seg, t: Seg) -> bool
+pub(crate) fn go_on(status: &mut ChunkedList<Seg>, s: Seg, t: Seg) -> bool
     ensures { result ≡ true → IsFollowed s t status.old status.new }
 {
     match place_in_status(status, s) {
@@ -161,7 +161,7 @@ fn is_before(p: Loc, q: Loc) -> bool
 }
 
 /// Whether the next segment begins before the next upper end.
-fn next_enters(segs: &[Seg], next: usize, end: Seg) -> bool
+pub(crate) fn next_enters(segs: &[Seg], next: usize, end: Seg) -> bool
     requires { IsRising seg_cmp segs.now }
     ensures inside { result ≡ true → next < length segs.now }
     ensures enters { result ≡ true → (d : Seg)
@@ -176,7 +176,7 @@ fn next_enters(segs: &[Seg], next: usize, end: Seg) -> bool
 }
 
 /// Whether the next segment begins where the next one ends, and before any later one does.
-fn goes_on(segs: &[Seg], next: usize, ends: &[Seg], left: usize) -> bool
+pub(crate) fn goes_on(segs: &[Seg], next: usize, ends: &[Seg], left: usize) -> bool
     requires rising { IsRising seg_cmp segs.now }
     requires left { left < length ends.now }
     ensures inside { result ≡ true → next < length segs.now }
