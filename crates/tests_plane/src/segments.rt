@@ -170,11 +170,11 @@ fn add_post(case: &mut Case, x: i64, beside: Beside) -> Result<(), Fail> {
     }
 }
 
-/// A hundred posts at every tenth x, each with a segment beside it, and far from them two segments that cross.
-fn posts(alloc: Global, beside: Beside) -> Result<Case, Fail> {
+/// Posts at every tenth x, each with a segment beside it, and far from them two segments that cross.
+fn posts(alloc: Global, beside: Beside, count: u32) -> Result<Case, Fail> {
     let mut case = Case::new(alloc);
     case.add_cross()?;
-    for i in 0..100u32 {
+    for i in 0..count {
         add_post(&mut case, 10 * i64::from(i), beside)?;
     }
     Ok(case)
@@ -196,9 +196,12 @@ fn conflicts_wherever_a_list_is_divided(rt: HostRuntime) -> Result<(), Fail> {
         ("goes on above", (0, 4), (0, 6), None),
         ("stands beside", (1, 0), (1, 4), None),
     ];
+    // A hundred conflicts are few enough to be set aside, and three hundred aren't.
     for (name, from, to, kind) in rows {
-        let case = posts(rt.alloc(), Beside { from, to, kind })?;
-        assert!(rt; case.is_found(rt.alloc())?, "{name}");
+        for count in [100, 300] {
+            let case = posts(rt.alloc(), Beside { from, to, kind }, count)?;
+            assert!(rt; case.is_found(rt.alloc())?, "{name}, {count} times");
+        }
     }
     Ok(())
 }
