@@ -150,17 +150,17 @@ module _ (segs : List Seg) (told : List Places) (strip part : Strip) (row : List
       (cases_lt k from)
 
 -- ---- one more in a list
-pub one_more_in : (xs : List SegAt) (i : ℕ) (x : SegAt) → i < length xs → x ≡ get_or xs i x → (s : SegAt) → Contains (take (i + 1) xs) s → Contains (take i xs) s ⊎ (x ≡ s)
+pub one_more_in : {X : Type 0} (xs : List X) (i : ℕ) (x : X) → i < length xs → x ≡ get_or xs i x → (s : X) → Contains (take (i + 1) xs) s → Contains (take i xs) s ⊎ (x ≡ s)
 one_more_in xs i x h is s c =
     ⊎_elim
     (λ (k : Contains (take i xs) s). inl k)
     (λ (k : Contains (x ∷ []) s). ⊎_elim (λ (e : x ≡ s). inr e) (λ (n : Contains [] s). absurd (no_member s n)) (member_cases x s [] k))
     (Contains-append_cases (take i xs) (x ∷ []) s (subst (λ ys. Contains ys s) (taken_more xs i x h is) c))
 
-pub last_in : (xs : List SegAt) (x : SegAt) → Contains (xs ++ x ∷ []) x
+pub last_in : {X : Type 0} (xs : List X) (x : X) → Contains (xs ++ x ∷ []) x
 last_in xs x = Contains-append_right xs (x ∷ []) x (first_member x [])
 
-pub none_taken : (xs : List SegAt) (s : SegAt) → Contains (take 0 xs) s → ⊥
+pub none_taken : {X : Type 0} (xs : List X) (s : X) → Contains (take 0 xs) s → ⊥
 none_taken [] s c = no_member s c
 none_taken (x ∷ xs) s c = no_member s c
 
@@ -179,7 +179,7 @@ went_second xs xs1 xs2 i x h is before s c =
     (λ (e : x ≡ s). inr (subst (Contains (xs2 ++ x ∷ [])) e (last_in xs2 x)))
     (one_more_in xs i x h is s c)
 
-pub all_taken : (xs : List SegAt) (i : ℕ) (s : SegAt) → length xs ≤ i → Contains xs s → Contains (take i xs) s
+pub all_taken : {X : Type 0} (xs : List X) (i : ℕ) (s : X) → length xs ≤ i → Contains xs s → Contains (take i xs) s
 all_taken xs i s h c = subst (λ ys. Contains ys s) (sym (take_all i xs h)) c
 
 -- one more at the end of a row
@@ -210,18 +210,6 @@ reduced_none segs strip told left all within later kept settled s t i j = settle
 pub reduced_more : (segs : List Seg) (strip : Strip) (old new : List Places) (least left all : List SegAt) → AreKept old new → IsReduced segs strip old left all → IsReduced segs strip new least left → IsReduced segs strip new least all
 reduced_more segs strip old new least left all kept first second later still settled =
     first later (λ p c. still p (kept p c)) (second later still settled)
-
--- few were set aside, and settled with all
-pub aside_out : (segs : List Seg) (strip : Strip) (told : List Places) (few others all : List SegAt) → ((s : SegAt) → Contains all s → Contains few s ⊎ Contains others s) →
-    ((s t : SegAt) → Contains few s → Contains all t → IsSettled segs told strip s t) → IsReduced segs strip told others all
-aside_out segs strip told few others all whole with_all later kept settled s t a b =
-    ⊎_elim
-    (λ (k : Contains few s). settled_still segs told later strip s t kept (with_all s t k b))
-    (λ (i : Contains others s). ⊎_elim
-    (λ (k : Contains few t). turned_settled segs later strip t s (settled_still segs told later strip t s kept (with_all t s k a)))
-    (λ (j : Contains others t). settled s t i j)
-    (whole t b))
-    (whole s a)
 
 -- a row was taken out, and settled with all that is left
 module _ (segs : List Seg) (strip : Strip) (told : List Places) (row rest others all : List SegAt) (whole : (s : SegAt) → Contains all s → Contains row s ⊎ Contains rest s) (stand : StandInRow strip row)

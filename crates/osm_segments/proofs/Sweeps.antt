@@ -1,10 +1,12 @@
 -- A sweep over segments, which enter in order of their lower ends and leave in order of their upper ones. Where each enters between two that fit, and each two that come to stand
 -- side by side don't conflict, no two conflict at all.
-use Rattle.std.proofs.Common.{All, AllPairs, Bool, Contains, List, None, Option, Some, [], ap, arith, cond, drop, false, get_or, inl, inr, length, not, pos, refl, remove, set, subst, suc, sym, take, true, zero, ℕ, ℤ, ⊎_elim, ◌&&◌, ◌+◌, ◌-◌, ◌-ℤ◌, ◌<◌, ◌||◌, ◌∙◌, ◌∷◌, ◌≡◌, ◌≢◌, ◌≤◌, ◌⊎◌}
+use Rattle.std.proofs.Common.{All, AllPairs, Bool, Contains, List, None, Option, Some, [], ap, arith, cond, drop, false, get_or, inl, inr, length, not, pos, refl, remove, set, subst, suc, sym, take, true, zero, ℕ, ℤ, ⊎_elim, ◌&&◌, ◌++◌, ◌+◌, ◌-◌, ◌-ℤ◌, ◌<◌, ◌||◌, ◌∙◌, ◌∷◌, ◌≡◌, ◌≢◌, ◌≤◌, ◌⊎◌}
 use borrow.Author.Differences.{ints}
 use Rattle.std.specs.declared.cmp.Ordering.{Ordering}
 use Rattle.std.specs.declared.cmp.Ordering.TheVariants.{Equal, Greater, Less}
 use Rattle.std.specs.Ordering.{is_eq, is_lt, ordering_then}
+use Rattle.std.specs.Option.{is_some}
+use Rattle.std.specs.Prelude.{IfSome}
 use Rattle.std.specs.List.Sorted.{IsSortedBy}
 use Rattle.std.proofs.lemmas.List.MinMax.{ranks_by}
 use Rattle.std.proofs.lemmas.List.Sorted.{sorted_far}
@@ -22,7 +24,7 @@ use Rattle.plane.specs.Vector.{Vector, orient}
 use Rattle.plane.proofs.PlaneKit.{clear_back, order_persists, right_chain, right_itself, right_of, order-reversed, order-self-null, order-sum, at-first-from, at-second-from}
 use Rattle.plane.proofs.SignKit.{agree, all, all-out, all2-out, imp, imp-out, says-at, self-diff, sign-from, negated-not-plus, sum-not-minus, not-minus-back}
 use Rattle.lists.specs.Member.{In}
-use Rattle.lists.proofs.ListsKit.{all_insert, at-in, in-either, in-left, in-right, pairs_insert, same_get}
+use Rattle.lists.proofs.ListsKit.{all_insert, at-in, in-either, in-left, in-right, no_member, pairs_insert, same_get}
 use Rattle.osm_lattice.specs.declared.loc.Loc.{Loc}
 use Rattle.osm_lattice.specs.declared.seg.Seg.{Seg}
 use Rattle.osm_lattice.specs.Conflict.{are_crossing, are_overlapping, conflict_of}
@@ -34,12 +36,12 @@ use Rattle.osm_lattice.proofs.LatticeKit.{loc_cmp-is, loc_total, rising_edge, se
 use Rattle.osm_lattice.specs.OrderLaws.{ordering_of}
 use Rattle.lists.specs.Rising.{IsRising}
 use Rattle.osm_segments.specs.Pairs.{conflicts_of, pair_of}
-use Rattle.osm_segments.proofs.RisingPairs.{tail_rising}
-use Rattle.osm_segments.specs.Sweep.{EndsRise, FitsAfter, FitsBefore, IsNotBefore, IsFollowed, HasLeft, IsPutBetween, lies_left, lies_right}
+use Rattle.osm_segments.specs.Sweep.{EndsRise, FitsAfter, FitsBefore, IsNotBefore, IsFollowed, HasLeft, AreInTheWay, IsPutBetween, lies_left, lies_right}
 use Rattle.osm_lattice.specs.Line.{is_left_of_line, is_right_of_line, side_of_line}
 use Rattle.osm_segments.specs.Tilted.{tilted, tilted_point}
 use Rattle.osm_segments.proofs.EdgePairs.{BeginsLeft, fans, turn-first, turn-second, two_ends}
 use Rattle.osm_segments.proofs.EdgeOrders.{BottomsLeft, TopsLeft, begins_left, beside, bottoms-chain, bottoms_left, clear_apart, ends_left, high-of, low-of, same-level, tops-chain, tops_left}
+use Rattle.osm_segments.proofs.ToldPlaces.{own_kind}
 use Rattle.osm_segments.proofs.SweptLists.{Linked, linked_insert, linked_remove, linked_weaker, pairs_from_linked}
 use Rattle.osm_segments.proofs.TiltedEdges.{conflicts-tilted, cross-tilted, height-tilted, order-tilted, tall-tilted}
 
@@ -57,8 +59,12 @@ pub record FitsAbove (y : ℤ) (t u : Seg) : Type 0 where
 abbrev pub Spans : ℤ → Seg → Type 0
 Spans y t = is_in_span (at_height y) (tilted t) ≡ true
 
--- those that entered span a height, in order, and neighbours don't conflict; those that are gone don't conflict with any that entered
-pub record IsSwept (segs ends : List Seg) (next left : ℕ) (status : List Seg) : Type 0 where
+-- they are the same, or don't conflict, or one is set aside
+abbrev pub Apart : List Seg → Seg → Seg → Type 0
+Apart aside u x = (u ≡ x) ⊎ (IsClearOf (tilted u) (tilted x) ⊎ (In u aside ⊎ In x aside))
+
+-- those that entered, and aren't set aside, span a height, in order, and neighbours don't conflict; or they are gone, and don't conflict with any that entered
+pub record IsSwept (segs ends aside : List Seg) (next left : ℕ) (status : List Seg) : Type 0 where
   pub gone : List Seg
   pub height : ℤ
   pub entered : All (λ t. In t (take next segs)) status
@@ -66,8 +72,10 @@ pub record IsSwept (segs ends : List Seg) (next left : ℕ) (status : List Seg) 
   pub spans : All (Spans height) status
   pub linked : Linked (FitsAbove height) status
   pub births : AllPairs (λ t u. BeginsLeft (tilted t) (tilted u)) status
-  pub cover : (x : Seg) → In x (take next segs) → (In x status) ⊎ (In x gone)
-  pub apart : (u x : Seg) → In u gone → In x (take next segs) → (u ≡ x) ⊎ IsClearOf (tilted u) (tilted x)
+  pub cover : (x : Seg) → In x (take next segs) → (In x status) ⊎ (In x gone ⊎ In x aside)
+  pub apart : (u x : Seg) → In u gone → In x (take next segs) → Apart aside u x
+  pub aside_in : (u : Seg) → In u aside → In u (take next segs)
+  pub aside_out : (u : Seg) → In u aside → In u status → ⊥
   pub gone_in : (u : Seg) → In u gone → In u (take left ends)
   pub passed : (u : Seg) → In u (take left ends) → (i : ℕ) (d : Seg) → next ≤ i → i < length segs → IsNotBefore u.b (get_or segs i d).a
 
@@ -83,6 +91,22 @@ in-remove x (y ∷ ys) zero d (inl e) h = inl e
 in-remove x (y ∷ ys) zero d (inr j) h = inr j
 in-remove x (y ∷ ys) (suc i) d (inl e) h = inr (inl e)
 in-remove x (y ∷ ys) (suc i) d (inr j) h = ⊎_elim (λ e. inl e) (λ k. inr (inr k)) (in-remove x ys i d j (omega arith))
+
+in-removed : {X : Type 0} (x : X) (xs : List X) (i : ℕ) → In x (remove xs i) → In x xs
+in-removed x [] zero j = j
+in-removed x [] (suc i) j = j
+in-removed x (y ∷ ys) zero j = inr j
+in-removed x (y ∷ ys) (suc i) (inl e) = inl e
+in-removed x (y ∷ ys) (suc i) (inr j) = inr (in-removed x ys i j)
+
+in-whole : {X : Type 0} (x : X) (xs : List X) (i : ℕ) → (In x (take i xs)) ⊎ (In x (drop i xs)) → In x xs
+in-whole x xs i (inl k) = subst (In x) (take-append-drop i xs) (in-left (take i xs) (drop i xs) x k)
+in-whole x xs i (inr k) = subst (In x) (take-append-drop i xs) (in-right (take i xs) (drop i xs) x k)
+
+in-inserted : {X : Type 0} (x y : X) (xs : List X) (i : ℕ) → In x (insert xs i y) → (x ≡ y) ⊎ In x xs
+in-inserted x y xs i j =
+    ⊎_elim (λ (k : In x (take i xs)). inr (in-whole x xs i (inl k))) (λ (k : In x (y ∷ drop i xs)). ⊎_elim (λ (e : x ≡ y). inl e) (λ (l : In x (drop i xs)). inr (in-whole x xs i (inr l))) k)
+    (in-either (take i xs) (y ∷ drop i xs) x j)
 
 in-insert-new : {X : Type 0} (x : X) (xs : List X) (i : ℕ) → In x (insert xs i x)
 in-insert-new x xs i = in-right (take i xs) (x ∷ drop i xs) x (inl refl)
@@ -120,6 +144,12 @@ all_remove_other P xs i inside other k d h =
     (λ (low : k < i). subst P (sym (get_or-remove_below xs i d k low inside)) (other k d (omega arith) (λ e. omega (arith, e))))
     (λ (high : i ≤ k). subst P (sym (get_or-remove_above xs i d k high inside)) (other (k + 1) d (omega (arith, len, h)) (λ e. omega (arith, e))))
     (cases_lt k i)
+
+pub from-contains : (xs : List Seg) (x : Seg) → Contains xs x → In x xs
+from-contains xs x (m, inside, at) = subst (λ y. In y xs) at (at-in xs m x inside)
+
+pub to-contains : (xs : List Seg) (x : Seg) → In x xs → Contains xs x
+to-contains xs x i = in-index x xs x i
 
 -- ---- segments that differ and have no conflict are clear
 none_clear : (e o x : Bool) → (if_kind : Option Kind) → if_kind ≡ cond e None (cond o (Some Overlap) (cond x (Some Crossing) None)) → e ≡ false → if_kind ≡ None → (o || x) ≡ false
@@ -199,14 +229,120 @@ later-ends ends rise left d u inside i =
     let far : left + r.0 < length ends = (let h = r.1 in omega (arith, h, length-drop left ends)) in
     subst (λ (t : Seg). IsNotBefore (get_or ends left d).b t.b) (sym (get_or-drop left ends r.0 d) ∙ r.2) (rise left (left + r.0) d (omega arith) far)
 
+-- ---- some that are set aside
+apart_back : (aside : List Seg) (u x : Seg) → Apart aside u x → Apart aside x u
+apart_back aside u x (inl e) = inl (sym e)
+apart_back aside u x (inr (inl c)) = inr (inl (clear_back (tilted u) (tilted x) c))
+apart_back aside u x (inr (inr (inl i))) = inr (inr (inr i))
+apart_back aside u x (inr (inr (inr i))) = inr (inr (inl i))
+
+apart_more : (aside : List Seg) (v u x : Seg) → Apart aside u x → Apart (aside ++ v ∷ []) u x
+apart_more aside v u x (inl e) = inl e
+apart_more aside v u x (inr (inl c)) = inr (inl c)
+apart_more aside v u x (inr (inr (inl i))) = inr (inr (inl (in-left aside (v ∷ []) u i)))
+apart_more aside v u x (inr (inr (inr i))) = inr (inr (inr (in-left aside (v ∷ []) x i)))
+
+last-in : (aside : List Seg) (v u : Seg) → u ≡ v → In u (aside ++ v ∷ [])
+last-in aside v u e = in-right aside (v ∷ []) u (inl e)
+
+one-of : (aside : List Seg) (v u : Seg) → In u (aside ++ v ∷ []) → (In u aside) ⊎ (u ≡ v)
+one-of aside v u i = ⊎_elim inl (λ (l : In u (v ∷ [])). ⊎_elim inr (λ none. absurd none) l) (in-either aside (v ∷ []) u i)
+
+-- ---- one is taken out of the status
+module _ (segs ends aside : List Seg) (next left : ℕ) (old new : List Seg) (is : IsSwept segs ends aside next left old) (t : Seg) (out : HasLeft t old new) where
+  t-is : (d : Seg) → get_or old out.place d ≡ t
+  t-is d = same_get old out.place d t out.inside ∙ out.at
+
+  differs-from : (m : ℕ) (d : Seg) → m < length old → m ≢ out.place → get_or old m d ≡ t → ⊥
+  differs-from m d h other e = ⊎_elim
+      (λ (low : m < out.place). all-differ is.height old is.spans is.linked m out.place d low out.inside (e ∙ sym (t-is d)))
+      (λ (not-low : out.place ≤ m). all-differ is.height old is.spans is.linked out.place m d (omega (arith, other)) h (t-is d ∙ sym e))
+      (cases_lt m out.place)
+
+  t-entered : In t (take next segs)
+  t-entered = subst (λ s. In s (take next segs)) out.at (is.entered out.place t out.inside)
+
+  entered-out : All (λ s. In s (take next segs)) (remove old out.place)
+  entered-out = all_remove_other (λ s. In s (take next segs)) old out.place out.inside (λ m d h o. is.entered m d h)
+
+  spans-out : All (Spans is.height) (remove old out.place)
+  spans-out = all_remove_other (Spans is.height) old out.place out.inside (λ m d h o. is.spans m d h)
+
+  linked-out : Linked (FitsAbove is.height) (remove old out.place)
+  linked-out = linked_remove (FitsAbove is.height) old out.place out.inside is.linked
+      (λ d a b. record {
+        clear = clear_of_none (get_or old (out.place - 1) d) (get_or old (out.place + 1) d) (all-differ is.height old is.spans is.linked (out.place - 1) (out.place + 1) d (omega arith) b) (out.closes d a b);
+        right = all-right is.height old is.spans is.linked (out.place - 1) (out.place + 1) d (omega arith) b;
+      })
+
+  births-out : AllPairs (λ s u. BeginsLeft (tilted s) (tilted u)) (remove old out.place)
+  births-out = all_pairs_remove (λ s u. BeginsLeft (tilted s) (tilted u)) old out.place out.inside is.births
+
+  from-old : (x : Seg) → In x old → (x ≡ t) ⊎ In x (remove old out.place)
+  from-old x j = ⊎_elim (λ (e : x ≡ get_or old out.place t). inl (e ∙ t-is t)) (λ k. inr k) (in-remove x old out.place t j out.inside)
+
+  out-of-new : In t (remove old out.place) → ⊥
+  out-of-new i =
+      let r = in-index t (remove old out.place) t i in
+      all_remove_other (λ s. s ≡ t → ⊥) old out.place out.inside (λ m d h o e. differs-from m d h o e) r.0 t r.1 r.2
+
+  -- it is set aside
+  pub has_made_way : IsSwept segs ends (aside ++ t ∷ []) next left new
+  has_made_way =
+      let fresh : IsSwept segs ends (aside ++ t ∷ []) next left (remove old out.place) = record {
+        gone = is.gone;
+        height = is.height;
+        entered = entered-out;
+        waiting = all_remove_other (λ s. In s (drop left ends)) old out.place out.inside (λ m d h o. is.waiting m d h);
+        spans = spans-out;
+        linked = linked-out;
+        births = births-out;
+        cover = λ x i. ⊎_elim
+            (λ (j : In x old). ⊎_elim (λ (e : x ≡ t). inr (inr (last-in aside t x e))) (λ k. inl k) (from-old x j))
+            (λ (j : In x is.gone ⊎ In x aside). ⊎_elim (λ (k : In x is.gone). inr (inl k)) (λ (k : In x aside). inr (inr (in-left aside (t ∷ []) x k))) j) (is.cover x i);
+        apart = λ u x i j. apart_more aside t u x (is.apart u x i j);
+        aside_in = λ u i. ⊎_elim (λ (k : In u aside). is.aside_in u k) (λ (e : u ≡ t). subst (λ s. In s (take next segs)) (sym e) t-entered) (one-of aside t u i);
+        aside_out = λ u i j. ⊎_elim (λ (k : In u aside). is.aside_out u k (in-removed u old out.place j)) (λ (e : u ≡ t). out-of-new (subst (λ s. In s (remove old out.place)) e j)) (one-of aside t u i);
+        gone_in = is.gone_in;
+        passed = is.passed;
+      } in subst (IsSwept segs ends (aside ++ t ∷ []) next left) (sym out.is) fresh
+
+-- ---- one that is set aside ends
+module _ (segs ends aside : List Seg) (next left : ℕ) (status : List Seg) (is : IsSwept segs ends aside next left status) (t : Seg) (there : In t aside)
+    (at : t ≡ get_or ends left t) (inside : left < length ends) (passes : (i : ℕ) (d : Seg) → next ≤ i → i < length segs → IsNotBefore t.b (get_or segs i d).a) where
+  passed-more : (u : Seg) → In u (take (left + 1) ends) → (i : ℕ) (d : Seg) → next ≤ i → i < length segs → IsNotBefore u.b (get_or segs i d).a
+  passed-more u i k d l m = ⊎_elim (λ j. is.passed u j k d l m) (λ (e : u ≡ get_or ends left t). subst (λ (s : Seg). IsNotBefore s.b (get_or segs k d).a) (at ∙ sym e) (passes k d l m)) (in-more u ends left t inside i)
+
+  pub has_ended : IsSwept segs ends aside next (left + 1) status
+  has_ended = record {
+    gone = is.gone;
+    height = is.height;
+    entered = is.entered;
+    waiting = λ m d h. ⊎_elim
+        (λ (e : get_or status m d ≡ get_or ends left t). absurd (is.aside_out t there (subst (λ s. In s status) (e ∙ sym at) (at-in status m d h))))
+        (λ i. i) (in-drop (get_or status m d) ends left t inside (is.waiting m d h));
+    spans = is.spans;
+    linked = is.linked;
+    births = is.births;
+    cover = is.cover;
+    apart = is.apart;
+    aside_in = is.aside_in;
+    aside_out = is.aside_out;
+    gone_in = λ u i. more-old u ends left t inside (is.gone_in u i);
+    passed = passed-more;
+  }
+
 -- ---- one leaves
-module _ (segs ends : List Seg) (rise : EndsRise ends) (next left : ℕ) (old new : List Seg) (is : IsSwept segs ends next left old) (t : Seg) (out : HasLeft t old new)
+module _ (segs ends aside : List Seg) (rise : EndsRise ends) (next left : ℕ) (old new : List Seg) (is : IsSwept segs ends aside next left old) (t : Seg) (out : HasLeft t old new)
     (at : t ≡ get_or ends left t) (inside : left < length ends) (passes : (i : ℕ) (d : Seg) → next ≤ i → i < length segs → IsNotBefore t.b (get_or segs i d).a) where
   abbrev q : Vector
   q = tilted_point t.b
 
-  t-is : (d : Seg) → get_or old out.place d ≡ t
-  t-is d = same_get old out.place d t out.inside ∙ out.at
+  at-place : (d : Seg) → get_or old out.place d ≡ t
+  at-place d = t-is segs ends aside next left old new is t out d
+
+  others : (m : ℕ) (d : Seg) → m < length old → m ≢ out.place → get_or old m d ≡ t → ⊥
+  others = differs-from segs ends aside next left old new is t out
 
   up : sign (q.y -ℤ is.height) ≡ Plus
   up = high-of (at_height is.height) (tilted t) (subst (Spans is.height) out.at (is.spans out.place t out.inside))
@@ -219,63 +355,58 @@ module _ (segs ends : List Seg) (rise : EndsRise ends) (next left : ℕ) (old ne
   clear-with m d h other = ⊎_elim
       (λ (low : m < out.place).
       let u = get_or old m d in
-      let begins = subst (λ (s : Seg). BeginsLeft (tilted u) (tilted s)) (t-is d) (is.births m out.place d low out.inside) in
-      let tops = subst (λ (s : Seg). TopsLeft q (tilted u) (tilted s)) (t-is d) (all-end is.height old is.spans is.linked q up high m out.place d low out.inside) in
+      let begins = subst (λ (s : Seg). BeginsLeft (tilted u) (tilted s)) (at-place d) (is.births m out.place d low out.inside) in
+      let tops = subst (λ (s : Seg). TopsLeft q (tilted u) (tilted s)) (at-place d) (all-end is.height old is.spans is.linked q up high m out.place d low out.inside) in
       let ends = ends_left (tilted u) (tilted t) (tall-tilted u) (tall-tilted t) q tops (inr (own-height q.y)) (high m d h) (ap (λ s. not (is_minus s)) (own-height q.y)) in
       clear_back (tilted u) (tilted t) (two_ends (tilted u) (tilted t) begins ends))
       (λ (not-low : out.place ≤ m).
       let above : out.place < m = omega (arith, other) in
       let u = get_or old m d in
-      let begins = subst (λ (s : Seg). BeginsLeft (tilted s) (tilted u)) (t-is d) (is.births out.place m d above h) in
-      let tops = subst (λ (s : Seg). TopsLeft q (tilted s) (tilted u)) (t-is d) (all-end is.height old is.spans is.linked q up high out.place m d above h) in
+      let begins = subst (λ (s : Seg). BeginsLeft (tilted s) (tilted u)) (at-place d) (is.births out.place m d above h) in
+      let tops = subst (λ (s : Seg). TopsLeft q (tilted s) (tilted u)) (at-place d) (all-end is.height old is.spans is.linked q up high out.place m d above h) in
       let ends = ends_left (tilted t) (tilted u) (tall-tilted t) (tall-tilted u) q tops (inl (own-height q.y)) (ap (λ s. not (is_minus s)) (own-height q.y)) (high m d h) in
       two_ends (tilted t) (tilted u) begins ends)
       (cases_lt m out.place)
-
-  differs-from : (m : ℕ) (d : Seg) → m < length old → m ≢ out.place → get_or old m d ≡ t → ⊥
-  differs-from m d h other e = ⊎_elim
-      (λ (low : m < out.place). all-differ is.height old is.spans is.linked m out.place d low out.inside (e ∙ sym (t-is d)))
-      (λ (not-low : out.place ≤ m). all-differ is.height old is.spans is.linked out.place m d (omega (arith, other)) h (t-is d ∙ sym e))
-      (cases_lt m out.place)
-
-  t-entered : In t (take next segs)
-  t-entered = subst (λ s. In s (take next segs)) out.at (is.entered out.place t out.inside)
 
   from-status : (x : Seg) → In x old → (t ≡ x) ⊎ IsClearOf (tilted t) (tilted x)
   from-status x i =
       let r = in-index x old t i in
       ⊎_elim
-      (λ (here : r.0 ≡ out.place). inl (sym (t-is t) ∙ ap (λ m. get_or old m t) (sym here) ∙ r.2))
+      (λ (here : r.0 ≡ out.place). inl (sym (at-place t) ∙ ap (λ m. get_or old m t) (sym here) ∙ r.2))
       (λ (other : r.0 ≢ out.place). inr (subst (λ (s : Seg). IsClearOf (tilted t) (tilted s)) r.2 (clear-with r.0 t r.1 other)))
       (cases_eq r.0 out.place)
 
-  from-gone : (x : Seg) → In x is.gone → (t ≡ x) ⊎ IsClearOf (tilted t) (tilted x)
-  from-gone x i = ⊎_elim (λ (e : x ≡ t). inl (sym e)) (λ (c : IsClearOf (tilted x) (tilted t)). inr (clear_back (tilted x) (tilted t) c)) (is.apart x t i t-entered)
+  from-gone : (x : Seg) → In x is.gone → Apart aside t x
+  from-gone x i = apart_back aside x t (is.apart x t i (t-entered segs ends aside next left old new is t out))
 
-  pub has_left : IsSwept segs ends next (left + 1) new
+  from-all : (x : Seg) → In x (take next segs) → Apart aside t x
+  from-all x j = ⊎_elim
+      (λ (k : In x old). ⊎_elim (λ (e : t ≡ x). inl e) (λ c. inr (inl c)) (from-status x k))
+      (λ (k : In x is.gone ⊎ In x aside). ⊎_elim (λ (l : In x is.gone). from-gone x l) (λ (l : In x aside). inr (inr (inr l))) k)
+      (is.cover x j)
+
+  pub has_left : IsSwept segs ends aside next (left + 1) new
   has_left =
-      let fresh : IsSwept segs ends next (left + 1) (remove old out.place) = record {
+      let fresh : IsSwept segs ends aside next (left + 1) (remove old out.place) = record {
         gone = t ∷ is.gone;
         height = is.height;
-        entered = all_remove_other (λ s. In s (take next segs)) old out.place out.inside (λ m d h o. is.entered m d h);
+        entered = entered-out segs ends aside next left old new is t out;
         waiting = all_remove_other (λ s. In s (drop (left + 1) ends)) old out.place out.inside
-            (λ m d h o. ⊎_elim (λ (e : get_or old m d ≡ get_or ends left t). absurd (differs-from m d h o (e ∙ sym at))) (λ i. i) (in-drop (get_or old m d) ends left t inside (is.waiting m d h)));
-        spans = all_remove_other (Spans is.height) old out.place out.inside (λ m d h o. is.spans m d h);
-        linked = linked_remove (FitsAbove is.height) old out.place out.inside is.linked
-            (λ d a b. record {
-              clear = clear_of_none (get_or old (out.place - 1) d) (get_or old (out.place + 1) d) (all-differ is.height old is.spans is.linked (out.place - 1) (out.place + 1) d (omega arith) b) (out.closes d a b);
-              right = all-right is.height old is.spans is.linked (out.place - 1) (out.place + 1) d (omega arith) b;
-            });
-        births = all_pairs_remove (λ s u. BeginsLeft (tilted s) (tilted u)) old out.place out.inside is.births;
+            (λ m d h o. ⊎_elim (λ (e : get_or old m d ≡ get_or ends left t). absurd (others m d h o (e ∙ sym at))) (λ i. i) (in-drop (get_or old m d) ends left t inside (is.waiting m d h)));
+        spans = spans-out segs ends aside next left old new is t out;
+        linked = linked-out segs ends aside next left old new is t out;
+        births = births-out segs ends aside next left old new is t out;
         cover = λ x i. ⊎_elim
-            (λ (j : In x old). ⊎_elim (λ (e : x ≡ get_or old out.place t). inr (inl (e ∙ t-is t))) (λ k. inl k) (in-remove x old out.place t j out.inside))
-            (λ (j : In x is.gone). inr (inr j)) (is.cover x i);
+            (λ (j : In x old). ⊎_elim (λ (e : x ≡ t). inr (inl (inl e))) (λ k. inl k) (from-old segs ends aside next left old new is t out x j))
+            (λ (j : In x is.gone ⊎ In x aside). ⊎_elim (λ (k : In x is.gone). inr (inl (inr k))) (λ (k : In x aside). inr (inr k)) j) (is.cover x i);
         apart = λ u x i j. ⊎_elim
-            (λ (e : u ≡ t). subst (λ (s : Seg). (s ≡ x) ⊎ IsClearOf (tilted s) (tilted x)) (sym e) (⊎_elim (from-status x) (from-gone x) (is.cover x j)))
+            (λ (e : u ≡ t). subst (λ (s : Seg). Apart aside s x) (sym e) (from-all x j))
             (λ (k : In u is.gone). is.apart u x k j) i;
+        aside_in = is.aside_in;
+        aside_out = λ u i j. is.aside_out u i (in-removed u old out.place j);
         gone_in = λ u i. ⊎_elim (λ (e : u ≡ t). subst (λ s. In s (take (left + 1) ends)) (sym (e ∙ at)) (more-new ends left t inside)) (λ k. more-old u ends left t inside (is.gone_in u k)) i;
         passed = λ u i k d l m. ⊎_elim (λ j. is.passed u j k d l m) (λ (e : u ≡ get_or ends left t). subst (λ (s : Seg). IsNotBefore s.b (get_or segs k d).a) (at ∙ sym e) (passes k d l m)) (in-more u ends left t inside i);
-      } in subst (IsSwept segs ends next (left + 1)) (sym out.is) fresh
+      } in subst (IsSwept segs ends aside next (left + 1)) (sym out.is) fresh
 
 -- ---- one enters
 -- x, y: the sides of t on which s begins and ends; k: the turn
@@ -351,19 +482,62 @@ plus-then-after p q r h k = by-signs (order (vector_of p) (vector_of q)) (order 
     by-signs Null y z a h k = absurd (cc h)
     by-signs Minus y z a h k = absurd (cc h)
 
-module _ (segs ends : List Seg) (rising : IsRising seg_cmp segs) (rise : EndsRise ends) (next left : ℕ) (old new : List Seg) (is : IsSwept segs ends next left old) (s : Seg) (put : IsPutBetween s old new)
+-- one that begins next isn't among those that entered
+module _ (segs : List Seg) (rising : IsRising seg_cmp segs) (next : ℕ) (s : Seg) (at : s ≡ get_or segs next s) (inside : next < length segs) where
+  pub before-next : (t : Seg) → In t (take next segs) → seg_cmp t s ≡ Less
+  before-next t i =
+      let r = in-index t (take next segs) s i in
+      let low : r.0 < next = (let h = r.1 in omega (arith, h, length-take-le next segs)) in
+      subst (λ u. seg_cmp u s ≡ Less) (sym (get_or-take next segs r.0 s low) ∙ r.2) (subst (λ u. seg_cmp (get_or segs r.0 s) u ≡ Less) (sym at) (rising r.0 next s low inside))
+
+  pub differs-from-next : (t : Seg) → In t (take next segs) → t ≡ s → ⊥
+  differs-from-next t i e = let own = tied_itself seg_total s in let less : seg_cmp s s ≡ Less = subst (λ u. seg_cmp u s ≡ Less) e (before-next t i) in cc (sym less ∙ own)
+
+-- ---- one is set aside as it begins
+module _ (segs ends aside : List Seg) (rising : IsRising seg_cmp segs) (next left : ℕ) (status : List Seg) (is : IsSwept segs ends aside next left status) (s : Seg) (at : s ≡ get_or segs next s) (inside : next < length segs) where
+  in-status : (u : Seg) → In u status → In u (take next segs)
+  in-status u i = let r = in-index u status s i in subst (λ t. In t (take next segs)) r.2 (is.entered r.0 s r.1)
+
+  pub has_stepped_aside : IsSwept segs ends (aside ++ s ∷ []) (next + 1) left status
+  has_stepped_aside = record {
+    gone = is.gone;
+    height = is.height;
+    entered = λ i d h. more-old (get_or status i d) segs next s inside (is.entered i d h);
+    waiting = is.waiting;
+    spans = is.spans;
+    linked = is.linked;
+    births = is.births;
+    cover = λ x i. ⊎_elim
+        (λ (j : In x (take next segs)). ⊎_elim (λ (k : In x status). inl k)
+        (λ (k : In x is.gone ⊎ In x aside). ⊎_elim (λ (l : In x is.gone). inr (inl l)) (λ (l : In x aside). inr (inr (in-left aside (s ∷ []) x l))) k) (is.cover x j))
+        (λ (e : x ≡ get_or segs next s). inr (inr (last-in aside s x (e ∙ sym at))))
+        (in-more x segs next s inside i);
+    apart = λ u x i j. ⊎_elim
+        (λ (k : In x (take next segs)). apart_more aside s u x (is.apart u x i k))
+        (λ (e : x ≡ get_or segs next s). inr (inr (inr (last-in aside s x (e ∙ sym at)))))
+        (in-more x segs next s inside j);
+    aside_in = λ u i. ⊎_elim
+        (λ (k : In u aside). more-old u segs next s inside (is.aside_in u k))
+        (λ (e : u ≡ s). subst (λ t. In t (take (next + 1) segs)) (sym (e ∙ at)) (more-new segs next s inside))
+        (one-of aside s u i);
+    aside_out = λ u i j. ⊎_elim
+        (λ (k : In u aside). is.aside_out u k j)
+        (λ (e : u ≡ s). differs-from-next segs rising next s at inside u (in-status u j) e)
+        (one-of aside s u i);
+    gone_in = is.gone_in;
+    passed = λ u i k d l m. is.passed u i k d (omega arith) m;
+  }
+
+module _ (segs ends aside : List Seg) (rising : IsRising seg_cmp segs) (rise : EndsRise ends) (next left : ℕ) (old new : List Seg) (is : IsSwept segs ends aside next left old) (s : Seg) (put : IsPutBetween s old new)
     (at : s ≡ get_or segs next s) (inside : next < length segs) (some : left < length ends) (first : order (vector_of s.a) (vector_of (get_or ends left s).b) ≡ Plus) (all-end : (x : Seg) → In x segs → In x ends) where
   abbrev h' : ℤ
   h' = (tilted s).from.y
 
   before-s : (t : Seg) → In t (take next segs) → seg_cmp t s ≡ Less
-  before-s t i =
-      let r = in-index t (take next segs) s i in
-      let low : r.0 < next = (let h = r.1 in omega (arith, h, length-take-le next segs)) in
-      subst (λ u. seg_cmp u s ≡ Less) (sym (get_or-take next segs r.0 s low) ∙ r.2) (subst (λ u. seg_cmp (get_or segs r.0 s) u ≡ Less) (sym at) (rising r.0 next s low inside))
+  before-s = before-next segs rising next s at inside
 
   differs-from-s : (t : Seg) → In t (take next segs) → t ≡ s → ⊥
-  differs-from-s t i e = let own = tied_itself seg_total s in let less : seg_cmp s s ≡ Less = subst (λ u. seg_cmp u s ≡ Less) e (before-s t i) in cc (sym less ∙ own)
+  differs-from-s = differs-from-next segs rising next s at inside
 
   -- all that wait end above s.a
   ends-above : (u : Seg) → In u (drop left ends) → order (vector_of s.a) (vector_of u.b) ≡ Plus
@@ -434,9 +608,9 @@ module _ (segs ends : List Seg) (rising : IsRising seg_cmp segs) (rise : EndsRis
       (λ (i : In s (drop left ends)). i)
       (in-either (take left ends) (drop left ends) s (subst (In s) (sym (take-append-drop left ends)) (all-end s (subst (λ t. In t segs) (sym at) (at-in segs next s inside)))))
 
-  pub has_entered : IsSwept segs ends (next + 1) left new
+  pub has_entered : IsSwept segs ends aside (next + 1) left new
   has_entered =
-      let fresh : IsSwept segs ends (next + 1) left (insert old put.place s) = record {
+      let fresh : IsSwept segs ends aside (next + 1) left (insert old put.place s) = record {
         gone = is.gone;
         height = h';
         entered = all_insert (λ t. In t (take (next + 1) segs)) old put.place s (λ i d h. more-old (get_or old i d) segs next s inside (is.entered i d h)) (subst (λ t. In t (take (next + 1) segs)) (sym at) (more-new segs next s inside));
@@ -453,46 +627,54 @@ module _ (segs ends : List Seg) (rising : IsRising seg_cmp segs) (rise : EndsRis
             (λ (e : x ≡ get_or segs next s).
             let after = subst (λ (t : Seg). IsNotBefore u.b t.a) (sym at) (is.passed u (is.gone_in u i) next s (omega arith) inside) in
             let clear = clear_apart (tilted u) (tilted s) (tall-tilted u) (tall-tilted s) (after-height u.b s.a after) (subst (λ z. not (is_minus z) ≡ true) (sym (order-tilted u.b s.a)) after) in
-            inr (subst (λ (t : Seg). IsClearOf (tilted u) (tilted t)) (at ∙ sym e) clear))
+            inr (inl (subst (λ (t : Seg). IsClearOf (tilted u) (tilted t)) (at ∙ sym e) clear)))
             (in-more x segs next s inside j);
+        aside_in = λ u i. more-old u segs next s inside (is.aside_in u i);
+        aside_out = λ u i j. ⊎_elim (λ (e : u ≡ s). differs-from-s u (is.aside_in u i) e) (λ (k : In u old). is.aside_out u i k) (in-inserted u s old put.place j);
         gone_in = is.gone_in;
         passed = λ u i k d l m. is.passed u i k d (omega arith) m;
-      } in subst (IsSwept segs ends (next + 1) left) (sym put.is) fresh
+      } in subst (IsSwept segs ends aside (next + 1) left) (sym put.is) fresh
 
--- ---- when all have left, no two conflict
-in-later : (s : Seg) (ts : List Seg) → IsRising seg_cmp (s ∷ ts) → (t : Seg) → In t ts → s ≡ t → ⊥
-in-later s ts rising t i e =
-    let r = in-index t ts s i in
-    let less = rising 0 (suc r.0) s (omega arith) (let h = r.1 in omega arith) in
-    let own = tied_itself seg_total s in
-    let same : seg_cmp s s ≡ Less = subst (λ u. seg_cmp s u ≡ Less) (r.2 ∙ sym e) less in cc (sym same ∙ own)
-
+-- ---- when all have left, of each two that conflict one is set aside
 none-with : (s : Seg) (ts : List Seg) → ((t : Seg) → In t ts → conflict_of s t ≡ None) → filter_map (pair_of s) ts ≡ []
 unfolding pair_of
 none-with s [] none = refl
 none-with s (t ∷ ts) none = rw (none t (inl refl)) (none-with s ts (λ u i. none u (inr i)))
 
-no-conflicts : (ss : List Seg) → IsRising seg_cmp ss → ((s t : Seg) → In s ss → In t ss → (s ≡ t) ⊎ IsClearOf (tilted s) (tilted t)) → conflicts_of ss ≡ []
-no-conflicts [] rising clear = refl
-no-conflicts (s ∷ ts) rising clear =
-    rw (none-with s ts (λ t i. ⊎_elim (λ e. absurd (in-later s ts rising t i e)) (λ c. none_of_clear s t c) (clear s t (inl refl) (inr i))))
-    (no-conflicts ts (tail_rising s ts rising) (λ t u i j. clear t u (inr i) (inr j)))
+no-conflicts : (ss : List Seg) → ((s t : Seg) → In s ss → In t ss → conflict_of s t ≡ None) → conflicts_of ss ≡ []
+no-conflicts [] none = refl
+no-conflicts (s ∷ ts) none = rw (none-with s ts (λ t i. none s t (inl refl) (inr i))) (no-conflicts ts (λ t u i j. none t u (inr i) (inr j)))
 
-pub all_clear : (segs ends : List Seg) → IsRising seg_cmp segs → (next left : ℕ) (status : List Seg) → next ≡ length segs → length status ≡ 0 → IsSwept segs ends next left status → conflicts_of segs ≡ []
-all_clear segs ends rising next left status whole empty is = no-conflicts segs rising
-    (λ s t i j. ⊎_elim
+-- none is set aside
+pub all_clear : (segs aside : List Seg) → length aside ≤ 0 → AreInTheWay segs aside → conflicts_of segs ≡ []
+all_clear segs [] few others = no-conflicts segs
+    (λ s t i j. ⊎_elim (λ none. none) (λ (k : Contains [] s ⊎ Contains [] t). absurd (⊎_elim (no_member s) (no_member t) k)) (others s t (to-contains segs s i) (to-contains segs t j)))
+all_clear segs (x ∷ xs) few others = absurd (omega arith)
+
+pub clear_if_found : {A : Type 0} (items : A → List Seg) (segs : List Seg) (found : Option A) → IfSome found (λ a. AreInTheWay segs (items a)) → IfSome found (λ a. length (items a) ≤ 0) → is_some found ≡ true → conflicts_of segs ≡ []
+clear_if_found items segs None others few e = absurd (cc e)
+clear_if_found items segs (Some a) others few e = all_clear segs (items a) few others
+
+pub all_swept : (segs ends aside : List Seg) (next left : ℕ) (status : List Seg) → next ≡ length segs → length status ≡ 0 → IsSwept segs ends aside next left status → AreInTheWay segs aside
+all_swept segs ends aside next left status whole empty is s t i j = ⊎_elim
     (λ (k : In s status). absurd (none-in s status empty k))
-    (λ (k : In s is.gone). is.apart s t k (among t j))
-    (is.cover s (among s i)))
+    (λ (k : In s is.gone ⊎ In s aside). ⊎_elim (λ (l : In s is.gone). by-apart (is.apart s t l (among t j))) (λ (l : In s aside). inr (inl (to-contains aside s l))) k)
+    (is.cover s (among s i))
   where
     none-in : (s : Seg) (xs : List Seg) → length xs ≡ 0 → In s xs → ⊥
     none-in s [] e i = i
     none-in s (x ∷ xs) e i = absurd (omega arith)
 
-    among : (x : Seg) → In x segs → In x (take next segs)
-    among x i = subst (In x) (sym (take_all next segs (omega arith))) i
+    among : (x : Seg) → Contains segs x → In x (take next segs)
+    among x c = subst (In x) (sym (take_all next segs (omega arith))) (from-contains segs x c)
 
-pub none_swept : (segs ends : List Seg) → IsSwept segs ends 0 0 []
+    by-apart : Apart aside s t → (conflict_of s t ≡ None) ⊎ (Contains aside s ⊎ Contains aside t)
+    by-apart (inl e) = inl (own_kind s t e)
+    by-apart (inr (inl c)) = inl (none_of_clear s t c)
+    by-apart (inr (inr (inl l))) = inr (inl (to-contains aside s l))
+    by-apart (inr (inr (inr l))) = inr (inr (to-contains aside t l))
+
+pub none_swept : (segs ends : List Seg) → IsSwept segs ends [] 0 0 []
 none_swept segs ends = record {
   gone = [];
   height = pos 0;
@@ -503,6 +685,8 @@ none_swept segs ends = record {
   births = λ i j d h l. absurd (omega arith);
   cover = λ x i. absurd i;
   apart = λ u x i j. absurd i;
+  aside_in = λ u i. absurd i;
+  aside_out = λ u i j. i;
   gone_in = λ u i. absurd i;
   passed = λ u i k d l m. absurd i;
 }
@@ -531,12 +715,6 @@ leaves-by segs rising next e s at inside not-before i d h l =
     (λ (same : i ≡ next). subst (λ m. IsNotBefore e (get_or segs m d).a) (sym same) here)
     (λ (other : i ≢ next). after-chain e (get_or segs next d).a (get_or segs i d).a here (begins-after (get_or segs next d) (get_or segs i d) (rising next i d (omega (arith, other)) l)))
     (cases_eq i next)
-
-pub from-contains : (xs : List Seg) (x : Seg) → Contains xs x → In x xs
-from-contains xs x (m, inside, at) = subst (λ y. In y xs) at (at-in xs m x inside)
-
-pub to-contains : (xs : List Seg) (x : Seg) → In x xs → Contains xs x
-to-contains xs x i = in-index x xs x i
 
 -- ---- one in the place of another
 in_place : (xs : List Seg) (i : ℕ) (x : Seg) → i < length xs → set xs i x ≡ insert (remove xs i) i x

@@ -21,6 +21,7 @@ use Rattle.osm_segments.specs.declared.places.Places.{Places}
 use Rattle.osm_segments.specs.declared.ranges.strips.SegAt.{SegAt}
 use Rattle.osm_segments.specs.declared.ranges.strips.Strip.{Strip}
 use Rattle.osm_segments.specs.Places.{pair_at}
+use Rattle.osm_segments.specs.Sweep.{AreInTheWay}
 use Rattle.osm_segments.specs.Ranges.{AreSettled, AreToldOrClear, IsConflictAt, IsGrown, IsSettled, IsTried, RunClear, height}
 use Rattle.osm_segments.proofs.SettledPairs.{turned_settled}
 use Rattle.osm_segments.proofs.StripOrders.{clear_everywhere}
@@ -119,3 +120,20 @@ told_or_clear [] told strip all low high long each settled i j l h = absurd (ome
 told_or_clear (s0 ∷ ss) told strip all low high long each settled i j l h =
     let d : SegAt = record { seg = s0; place = 0 } in let s : SegAt = get_or all i d in let t : SegAt = get_or all j d in
     by_settled s0 ss told strip all low high each i j l h (settled s t (i, omega (arith, long), same_get all i s d (omega (arith, long))) (j, omega (arith, long), same_get all j t d (omega (arith, long))))
+
+-- few were tried with all, and of each two others that conflict there is none
+pub told_by_few : (segs aside sorted : List Seg) (few : List ℕ) (told : List Places) (count : ℕ) → count ≡ length segs → AreInTheWay segs aside → ((s : Seg) → Contains aside s → Contains sorted s) →
+    ((i : ℕ) (d : Seg) → i < count → Contains sorted (get_or segs i d) → Contains few i) → ((i j : ℕ) → Contains few i → j < count → IsTried segs told i j) → AreToldOrClear segs told
+told_by_few [] aside sorted few told count long others moved among tried i j l h = absurd (omega arith)
+told_by_few (s0 ∷ ss) aside sorted few told count long others moved among tried i j l h =
+    let segs = s0 ∷ ss in let s = get_or segs i s0 in let t = get_or segs j s0 in
+    ⊎_elim
+    (λ (none : conflict_of s t ≡ None). inr (clear_at_places segs (record { first = i; second = j }) s t (slice_get-get_or segs i s0 (omega arith)) (slice_get-get_or segs j s0 h) none))
+    (λ (k : Contains aside s ⊎ Contains aside t). inl (⊎_elim
+    (λ (a : Contains aside s). tried i j (among i s0 (omega (arith, long)) (moved s a)) (omega (arith, long)))
+    (λ (a : Contains aside t). back (tried j i (among j s0 (omega (arith, long)) (moved t a)) (omega (arith, long)))) k))
+    (others s t (i, omega arith, same_get segs i s s0 (omega arith)) (j, h, same_get segs j t s0 h))
+  where
+    back : IsTried (s0 ∷ ss) told j i → IsTried (s0 ∷ ss) told i j
+    back (inl x) = inr x
+    back (inr x) = inl x

@@ -1,7 +1,7 @@
 -- One step of a sweep upwards over segments.
 -- It says where a segment is among those that span the point at which it begins, and which segments are neighbours once it
 -- has ended. Public contracts cite only `EndsRise` and `AreByEnds`.
-use Rattle.std.specs.Prelude.{Bool, IsPermutation, List, None, insert, length, not, remove, slice_index_or, true, ℕ, ◌&&◌, ◌+◌, ◌-◌, ◌<◌, ◌||◌, ◌≡◌, ◌≤◌}
+use Rattle.std.specs.Prelude.{Bool, Contains, IsPermutation, List, None, insert, length, not, remove, slice_index_or, true, ℕ, ◌&&◌, ◌+◌, ◌-◌, ◌<◌, ◌||◌, ◌≡◌, ◌≤◌, ◌⊎◌}
 use Rattle.plane.specs.Order.{order}
 use Rattle.plane.specs.Sign.{is_minus}
 use Rattle.osm_lattice.specs.declared.loc.Loc.{Loc}
@@ -57,3 +57,7 @@ EndsRise ends = (i j : ℕ) (d : Seg) → i ≤ j → j < length ends → IsNotB
 pub record AreByEnds (segs ends : List Seg) : Type 0 where
   pub moved : IsPermutation segs ends
   pub rise : EndsRise ends
+
+-- of each two segments of a list that conflict, one is among these
+abbrev pub AreInTheWay : List Seg → List Seg → Type 0
+AreInTheWay segs aside = (s t : Seg) → Contains segs s → Contains segs t → (conflict_of s t ≡ None) ⊎ (Contains aside s ⊎ Contains aside t)

@@ -12,7 +12,7 @@ use crate::counts::odd_nodes;
 use crate::few::pairs::{FEW, conflicts_of_few};
 use crate::parity::are_even;
 use crate::ranges::division::has_conflict;
-use crate::sweep::clear::{by_ends, sort_by_ends};
+use crate::sweep::steps::{by_ends, sort_by_ends};
 use osm_lattice::{Loc, Seg};
 use std::alloc::{AllocError as OutOfMemory, Global};
 use std::marker::Model;

@@ -10,11 +10,10 @@ ghost use Rattle.osm_segments.specs.Places.{AreConflictPlaces, pair_at};
 use crate::few::pairs::{FEW, conflicts_of_few, pair_of};
 use crate::places::Places;
 use crate::ranges::division;
-use crate::sweep::aside::in_the_way;
-use crate::sweep::clear::{by_ends, is_clear};
+use crate::sweep::clear::few_in_the_way;
+use crate::sweep::trying;
 use osm_lattice::{Kind, Seg};
 use std::alloc::{AllocError as OutOfMemory, Global};
-use std::mem;
 
 /// Two segments that conflict, the lesser first, and how.
 ///
@@ -77,16 +76,14 @@ pub fn conflicts(alloc: Global, segs: &[Seg]) -> Result<Vec<Pair>, OutOfMemory>
 
 /// The places of all conflicting pairs among segments in strict order: by the first segment, then by the second. A pair takes 8 bytes.
 ///
-/// Ways: segments that one sweep finds free of conflicts (sweep); those that it does without few of them; all others by strips (ranges).
+/// Ways: segments that are free of conflicts without few of them, which one sweep finds (sweep); all others by strips (ranges).
 pub fn conflict_places(alloc: Global, segs: &[Seg]) -> Result<Vec<Places>, OutOfMemory>
     requires { IsRising seg_cmp segs.now }
     ensures { IfOk result (λ v. AreConflictPlaces segs.now v.items) }
 {
-    let ends = by_ends(alloc, segs)?;
-    if is_clear(alloc, segs, &ends)? {
-        return Ok(Vec::new(alloc));
+    match few_in_the_way(alloc, segs) {
+        Ok(Some(aside)) => trying::conflict_places(alloc, segs, aside),
+        Ok(None) => division::conflict_places(alloc, segs),
+        Err(OutOfMemory) => Err(OutOfMemory),
     }
-    let aside = in_the_way(alloc, segs, &ends)?;
-    mem::drop(ends);
-    division::conflict_places(alloc, segs, &aside)
 }

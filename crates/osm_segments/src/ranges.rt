@@ -2,7 +2,6 @@
 //!
 //! Heights are those of the tilted plane: a location is higher than another if it comes later, so no segment is level.
 
-pub mod aside;
 pub mod division;
 pub mod order;
 pub mod rows;

@@ -18,7 +18,6 @@ ghost use Rattle.osm_segments.specs.Ranges.{AreSettled, AreToldOrClear, HaveNoCo
 use crate::counts::distinct_of;
 use crate::pairs::{Pair, pair_at};
 use crate::places::Places;
-use crate::ranges::aside::settle_aside;
 use crate::ranges::rows::{ByRun, in_order_across, part_by_run};
 use crate::ranges::strips::{Halves, SegAt, Strip, halved, heights_of, with_places};
 use crate::ranges::telling::{settle_rows, try_each};
@@ -133,7 +132,7 @@ fn whole_plane() -> Strip
 }
 
 /// Places in order, each once.
-fn each_once(mut told: Vec<Places>) -> Vec<Places>
+pub(crate) fn each_once(mut told: Vec<Places>) -> Vec<Places>
     ensures kept { (p : Places) → Contains told.items p → Contains result.items p }
     ensures known { (p : Places) → Contains result.items p → Contains told.items p }
     ensures rising { IsRising places_cmp result.items }
@@ -143,60 +142,30 @@ fn each_once(mut told: Vec<Places>) -> Vec<Places>
     told
 }
 
-/// Settles the segments that are to be set aside, and gives the others: none of them, where one sweep finds them free of conflicts.
-fn settle_some(
-    alloc: Global,
-    told: &mut Vec<Places>,
-    limit: usize,
-    segs: &[Seg],
-    strip: Strip,
-    aside: &[Seg],
-    all: Vec<SegAt>,
-) -> Result<Vec<SegAt>, OutOfMemory>
-    ensures grown { IfOk result (λ rest. IsGrown segs.now told.old.items told.new.items) }
-    ensures reduced { IfOk result (λ rest. IsReduced segs.now strip told.new.items rest.items
-        all.items) }
-{
-    if aside.is_empty() {
-        return Ok(all);
-    }
-    let others = settle_aside(alloc, told, limit, segs, strip, aside, all)?;
-    unsettled(alloc, others)
-}
-
 /// Settles all segments of a list.
-///
-/// Ways: few segments that are set aside, if the others are free of conflicts without them; all others by strips.
 fn settle_list(
     alloc: Global,
     told: &mut Vec<Places>,
     limit: usize,
     segs: &[Seg],
-    aside: &[Seg],
 ) -> Result<(), OutOfMemory>
     ensures grown { OnOk result (IsGrown segs.now told.old.items told.new.items) }
     ensures told { OnOk result (AreToldOrClear segs.now told.new.items) }
 {
-    let plane = whole_plane();
+    let heights = heights_of(alloc, segs)?;
     let all = with_places(alloc, segs)?;
-    let rest = settle_some(alloc, told, limit, segs, plane, aside, all)?;
-    let heights = heights_of(alloc, &rest)?;
-    settle_strip(alloc, told, limit, segs, plane, &heights, rest)
+    settle_strip(alloc, told, limit, segs, whole_plane(), &heights, all)
 }
 
-/// The places of all conflicting pairs among segments in strict order, in order. Only speed rests on those that are set aside.
-pub fn conflict_places(
-    alloc: Global,
-    segs: &[Seg],
-    aside: &[Seg],
-) -> Result<Vec<Places>, OutOfMemory>
+/// The places of all conflicting pairs among segments in strict order, in order.
+pub fn conflict_places(alloc: Global, segs: &[Seg]) -> Result<Vec<Places>, OutOfMemory>
     requires { IsRising seg_cmp segs.now }
     ensures { IfOk result (λ v. AreConflictPlaces segs.now v.items) }
 {
     conflicts_are_symmetric();
     counts_determine::<Pair>();
     let mut told = Vec::new(alloc);
-    settle_list(alloc, &mut told, usize::MAX, segs, aside)?;
+    settle_list(alloc, &mut told, usize::MAX, segs)?;
     Ok(each_once(told))
 }
 
@@ -237,7 +206,7 @@ pub fn has_conflict(alloc: Global, segs: &[Seg], ends: &[Seg]) -> Result<bool, O
     conflicts_are_symmetric();
     counts_determine::<Pair>();
     let mut told = Vec::new(alloc);
-    let searched = settle_list(alloc, &mut told, 1, segs, &[]);
+    let searched = settle_list(alloc, &mut told, 1, segs);
     if shows_conflict(segs, &told) {
         return Ok(true);
     }

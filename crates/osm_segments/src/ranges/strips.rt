@@ -127,11 +127,11 @@ pub fn halved(alloc: Global, all: Vec<SegAt>, middle: Loc) -> Result<Halves, Out
 /// The heights at which segments begin or end, each once and in order.
 ///
 /// Only speed depends on them.
-pub fn heights_of(alloc: Global, all: &[SegAt]) -> Result<Vec<Loc>, OutOfMemory> {
-    let mut heights = Vec::with_capacity(alloc, 2 * all.len())?;
-    for s in all {
-        heights.push(s.seg.a)?;
-        heights.push(s.seg.b)?;
+pub fn heights_of(alloc: Global, segs: &[Seg]) -> Result<Vec<Loc>, OutOfMemory> {
+    let mut heights = Vec::with_capacity(alloc, 2 * segs.len())?;
+    for s in segs {
+        heights.push(s.a)?;
+        heights.push(s.b)?;
     }
     heights.sort_unstable();
     heights.dedup();

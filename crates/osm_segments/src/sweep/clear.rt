@@ -1,230 +1,74 @@
-//! Whether segments are free of conflicts, by one sweep upwards.
-ghost use Rattle.std.specs.Prelude.{◌≡◌, ◌<◌, ◌≤◌, ◌-◌, ◌+◌, ℕ, [], IfOk, IsPermutation, None, false, length, slice_index_or, true};
-ghost use Rattle.osm_lattice.specs.declared.seg.Seg.{Seg};
-ghost use Rattle.osm_lattice.specs.Conflict.{conflict_of};
-ghost use Rattle.plane.specs.Order.{order};
-ghost use Rattle.plane.specs.Sign.{Plus, is_plus};
-ghost use Rattle.osm_lattice.specs.Loc.{vector_of};
+//! Whether segments are free of conflicts, or are so without few of them, by one sweep upwards.
+ghost use Rattle.std.specs.Prelude.{◌≡◌, ◌≤◌, [], IfOk, IfSome, IsPermutation, length, true};
 ghost use Rattle.osm_lattice.specs.Seg.{seg_cmp};
 ghost use Rattle.lists.specs.Rising.{IsRising};
 ghost use Rattle.osm_segments.specs.Pairs.{conflicts_of};
-ghost use Rattle.osm_segments.specs.Sweep.{EndsRise, FitsAfter, FitsBefore, HasLeft, IsFollowed, IsNotBefore, IsPutBetween, lies_left, lies_right};
+ghost use Rattle.osm_segments.specs.Sweep.{AreInTheWay, EndsRise};
 
-use crate::sweep::finding::place_in_status;
+use crate::sweep::steps::{by_ends, enter, follow, leave, make_way, next_enters};
 use chunked_list::ChunkedList;
-use osm_lattice::{Loc, Seg, conflict};
+use osm_lattice::Seg;
 use std::alloc::{AllocError as OutOfMemory, Global};
 
-/// Whether `t` is right of `s` just above the lower end of `s`, if both pass that height.
-fn lies_right(s: Seg, t: Seg) -> bool
-    ensures { result ≡ lies_right s t }
-{
-    t.has_on_left(s.a) || !t.has_on_right(s.a) && t.has_on_left(s.b)
-}
+/// At most so many segments are set aside, and tried with all.
+const FEW: usize = 255;
 
-fn lies_left(s: Seg, t: Seg) -> bool
-    ensures { result ≡ lies_left s t }
-{
-    t.has_on_right(s.a) || !t.has_on_left(s.a) && t.has_on_right(s.b)
-}
-
-fn are_clear(s: Seg, t: Seg) -> bool
-    ensures { result ≡ true → conflict_of s t ≡ None }
-{
-    conflict(s, t).is_none()
-}
-
-fn fits_before(s: Seg, t: Seg) -> bool
-    ensures { result ≡ true → FitsBefore s t }
-{
-    are_clear(t, s) && lies_left(s, t)
-}
-
-fn fits_after(s: Seg, t: Seg) -> bool
-    ensures { result ≡ true → FitsAfter s t }
-{
-    are_clear(s, t) && lies_right(s, t)
-}
-
-/// Whether a segment fits between those before one place and those from another on.
-fn fits_between(status: &ChunkedList<Seg>, low: usize, high: usize, s: Seg) -> bool
-    requires { low ≤ length status.now }
-    ensures before { result ≡ true → 0 < low
-        → FitsBefore s (slice_index_or status.now (low - 1) s) }
-    ensures after { result ≡ true → high < length status.now
-        → FitsAfter s (slice_index_or status.now high s) }
-{
-    if low > 0 && !fits_before(s, status.get(low - 1)) {
-        return false;
-    }
-    if high < status.len() && !fits_after(s, status.get(high)) {
-        return false;
-    }
-    true
-}
-
-/// Puts a segment where it seems to belong, if it fits there.
-pub(crate) fn enter(status: &mut ChunkedList<Seg>, s: Seg) -> Result<bool, OutOfMemory>
-    ensures { IfOk result (λ fits. fits ≡ true → IsPutBetween s status.old status.new) }
-{
-    let place = status.partition_point(|t| !lies_right(s, *t));
-    if !fits_between(status, place, place, s) {
-        return Ok(false);
-    }
-    status.insert(place, s)?;
-    Ok(true)
-}
-
-/// Whether the two segments next to a place don't conflict.
-fn closes(status: &ChunkedList<Seg>, place: usize) -> bool
-    requires { place < length status.now }
-    ensures { result ≡ true → (d : Seg) → 0 < place → place + 1 < length status.now
-        → conflict_of (slice_index_or status.now (place - 1) d)
-        (slice_index_or status.now (place + 1) d) ≡ None }
-{
-    if place > 0
-        && place < status.len() - 1
-        && !are_clear(status.get(place - 1), status.get(place + 1))
-    {
-        return false;
-    }
-    true
-}
-
-/// Takes a segment out, if it is there and the two next to it don't conflict.
-fn leave(status: &mut ChunkedList<Seg>, s: Seg) -> bool
-    ensures { result ≡ true → HasLeft s status.old status.new }
-{
-    match place_in_status(status, s) {
-        Some(place) => {
-            if !closes(status, place) {
-                return false;
-            }
-            status.remove(place);
-            true
-        }
-        None => false,
-    }
-}
-
-/// Replaces a segment by one that begins where it ends.
+/// Segments without which the others, of those in strict order, have no conflict. None if one sweep upwards finds more than `most`.
 ///
-/// It does so if that one fits there and its two neighbours don't conflict with each other.
-pub(crate) fn go_on(status: &mut ChunkedList<Seg>, s: Seg, t: Seg) -> bool
-    ensures { result ≡ true → IsFollowed s t status.old status.new }
-{
-    match place_in_status(status, s) {
-        Some(place) => {
-            let inside = place < status.len();
-            prove!(inside);
-            if !closes(status, place) || !fits_between(status, place, place + 1, t) {
-                return false;
-            }
-            status.set(place, t);
-            true
-        }
-        None => false,
-    }
-}
-
-/// Puts segments in the order of their upper ends.
-pub fn sort_by_ends(segs: &mut [Seg])
-    ensures moved { IsPermutation segs.old segs.new }
-    ensures rise { EndsRise segs.new }
-{
-    segs.sort_unstable_by(|s, t| s.b.cmp(&t.b));
-}
-
-/// The segments of a list in the order of their upper ends: none follows one whose upper end comes after its own.
-pub fn in_order_of_ends(mut segs: Vec<Seg>) -> Vec<Seg>
-    ensures moved { IsPermutation segs.items result.items }
-    ensures rise { EndsRise result.items }
-{
-    sort_by_ends(&mut segs);
-    segs
-}
-
-/// The segments in the order of their upper ends.
-pub fn by_ends(alloc: Global, segs: &[Seg]) -> Result<Vec<Seg>, OutOfMemory>
-    ensures moved { IfOk result (λ ends. IsPermutation segs.now ends.items) }
-    ensures rise { IfOk result (λ ends. EndsRise ends.items) }
-{
-    let ends = Vec::from_slice(alloc, segs)?;
-    Ok(in_order_of_ends(ends))
-}
-
-#[tactic(auto, using(osm_lattice::proofs::LocationOrder::is_lt_before), unfolding(osm_lattice::specs::ConflictTests::before))]
-fn is_before(p: Loc, q: Loc) -> bool
-    ensures { result ≡ is_plus (order (vector_of p) (vector_of q)) }
-{
-    p < q
-}
-
-/// Whether the next segment begins before the next upper end.
-pub(crate) fn next_enters(segs: &[Seg], next: usize, end: Seg) -> bool
-    requires { IsRising seg_cmp segs.now }
-    ensures inside { result ≡ true → next < length segs.now }
-    ensures enters { result ≡ true → (d : Seg)
-        → order (vector_of (slice_index_or segs.now next d).a) (vector_of end.b) ≡ Plus }
-    ensures leaves { result ≡ false → (i : ℕ) (d : Seg) → next ≤ i → i < length segs.now
-        → IsNotBefore end.b (slice_index_or segs.now i d).a }
-{
-    if next >= segs.len() {
-        return false;
-    }
-    is_before(segs[next].a, end.b)
-}
-
-/// Whether the next segment begins where the next one ends, and before any later one does.
-pub(crate) fn goes_on(segs: &[Seg], next: usize, ends: &[Seg], left: usize) -> bool
+/// Each segment enters between those of the status that are left and right of its lower end; it is in the way if it doesn't fit
+/// there. It leaves at its upper end, or another that begins there takes its place. If the two next to one that leaves conflict,
+/// the one behind it is in the way. Only segments that become neighbours are tried. The segments are also given in the order of
+/// their upper ends.
+pub fn in_the_way(
+    alloc: Global,
+    segs: &[Seg],
+    ends: &[Seg],
+    most: usize,
+) -> Result<Option<Vec<Seg>>, OutOfMemory>
     requires rising { IsRising seg_cmp segs.now }
-    requires left { left < length ends.now }
-    ensures inside { result ≡ true → next < length segs.now }
-    ensures some { result ≡ true → left + 1 < length ends.now }
-    ensures enters { result ≡ true → (d : Seg)
-        → order (vector_of (slice_index_or segs.now next d).a)
-        (vector_of (slice_index_or ends.now (left + 1) d).b) ≡ Plus }
+    requires moved { IsPermutation segs.now ends.now }
+    requires rise { EndsRise ends.now }
+    ensures others { IfOk result (λ found. IfSome found (λ aside. AreInTheWay segs.now aside.items)) }
+    ensures few { IfOk result (λ found. IfSome found (λ aside. length aside.items ≤ most)) }
 {
-    left + 1 < ends.len() && next_enters(segs, next, ends[left + 1]) && segs[next].a == ends[left].b
+    let mut status = ChunkedList::new(alloc);
+    let mut aside = Vec::new(alloc);
+    let mut next = 0;
+    let mut left = 0;
+    while left < ends.len() && aside.len() <= most {
+        if next_enters(segs, next, ends[left]) {
+            if !enter(&mut status, segs[next])? {
+                aside.push(segs[next])?;
+            }
+            next += 1;
+        } else if follow(&mut status, segs, next, ends, left) {
+            next += 1;
+            left += 1;
+        } else if leave(&mut status, ends[left]) {
+            left += 1;
+        } else if aside.contains(&ends[left]) {
+            left += 1;
+        } else if let Some(behind) = make_way(&mut status, ends[left]) {
+            aside.push(behind)?;
+        } else {
+            return Ok(None);
+        }
+    }
+    if aside.len() > most || next != segs.len() || !status.is_empty() {
+        return Ok(None);
+    }
+    Ok(Some(aside))
 }
 
-/// Whether one sweep upwards finds segments in strict order free of conflicts.
-///
-/// Each segment enters between those of the status that are left and right of its lower end. It leaves at its upper end, or
-/// another that begins there takes its place. Only segments that become neighbours are tried. The segments are also given in
-/// the order of their upper ends.
+/// Whether one sweep upwards finds segments in strict order free of conflicts. They are also given in the order of their upper ends.
 pub fn is_clear(alloc: Global, segs: &[Seg], ends: &[Seg]) -> Result<bool, OutOfMemory>
     requires rising { IsRising seg_cmp segs.now }
     requires moved { IsPermutation segs.now ends.now }
     requires rise { EndsRise ends.now }
     ensures { IfOk result (λ clear. clear ≡ true → conflicts_of segs.now ≡ []) }
 {
-    let mut status = ChunkedList::new(alloc);
-    let mut next = 0;
-    let mut left = 0;
-    while left < ends.len() {
-        if next_enters(segs, next, ends[left]) {
-            if !enter(&mut status, segs[next])? {
-                return Ok(false);
-            }
-            next += 1;
-        } else if goes_on(segs, next, ends, left) {
-            if !go_on(&mut status, ends[left], segs[next]) {
-                return Ok(false);
-            }
-            next += 1;
-            left += 1;
-        } else {
-            if !leave(&mut status, ends[left]) {
-                return Ok(false);
-            }
-            left += 1;
-        }
-    }
-    if next != segs.len() {
-        return Ok(false);
-    }
-    Ok(status.is_empty())
+    let found = in_the_way(alloc, segs, ends, 0)?;
+    Ok(found.is_some())
 }
 
 /// The same of segments that aren't given in the order of their upper ends. Their list in that order goes once the sweep has ended.
@@ -234,4 +78,13 @@ pub fn is_clear_by_ends(alloc: Global, segs: &[Seg]) -> Result<bool, OutOfMemory
 {
     let ends = by_ends(alloc, segs)?;
     is_clear(alloc, segs, &ends)
+}
+
+/// Few segments without which the others, of those in strict order, have no conflict, if one sweep finds them.
+pub fn few_in_the_way(alloc: Global, segs: &[Seg]) -> Result<Option<Vec<Seg>>, OutOfMemory>
+    requires { IsRising seg_cmp segs.now }
+    ensures { IfOk result (λ found. IfSome found (λ aside. AreInTheWay segs.now aside.items)) }
+{
+    let ends = by_ends(alloc, segs)?;
+    in_the_way(alloc, segs, &ends, FEW)
 }

@@ -1,6 +1,6 @@
 use Rattle.std.proofs.Common.{arith, get_or, length, sym, ◌<◌, ◌∙◌}
 use Rattle.osm_segments.proofs.Sweeps.{leaves-by}
-use Rattle.osm_segments.proofs.sweep.clear.next_enters.Goals as goal
+use Rattle.osm_segments.proofs.sweep.steps.next_enters.Goals as goal
 use Rattle.lists.proofs.ListsKit.{same_get}
 
 pub returns-clause-leaves : goal.returns-clause-leaves

@@ -6,7 +6,7 @@ use Rattle.osm_lattice.specs.declared.seg.Seg.{Seg}
 use Rattle.osm_lattice.specs.Loc.{loc_cmp}
 use Rattle.osm_lattice.proofs.LatticeKit.{loc_total}
 use Rattle.osm_segments.proofs.Sweeps.{ends-rise}
-use Rattle.osm_segments.proofs.sweep.clear.sort_by_ends.Goals as goal
+use Rattle.osm_segments.proofs.sweep.steps.sort_by_ends.Goals as goal
 
 pub returns-clause-rise : goal.returns-clause-rise
 returns-clause-rise c =

@@ -1,9 +1,0 @@
-use Rattle.std.proofs.Common.{length, ◌+◌, ◌-◌, ◌≤◌}
-use Rattle.osm_segments.proofs.Sweeps.{IsSwept}
-use Rattle.osm_segments.proofs.sweep.clear.is_clear.Given as goal
-
-abbrev pub invariant-loop-left : goal.invariant-loop-left
-invariant-loop-left l = (l.next ≤ length l.segs) × IsSwept l.segs l.ends l.next l.left l.status
-
-abbrev pub decreases-loop-left : goal.decreases-loop-left
-decreases-loop-left l = (length l.segs - l.next) + (length l.ends - l.left)
