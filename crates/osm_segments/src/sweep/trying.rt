@@ -57,12 +57,7 @@ fn try_with_few(
 }
 
 /// Tries the segments at few places with all those before a place.
-fn try_few(
-    told: &mut Vec<Places>,
-    segs: &[Seg],
-    few: &[u32],
-    count: u32,
-) -> Result<(), OutOfMemory>
+fn try_few(told: &mut Vec<Places>, segs: &[Seg], few: &[u32], count: u32) -> Result<(), OutOfMemory>
     ensures grown { OnOk result (IsGrown segs.now told.old.items told.new.items) }
     ensures tried { OnOk result ((i j : ℕ) → Contains few.now i → j < count
         → IsTried segs.now told.new.items i j) }
