@@ -11,7 +11,7 @@ use Rattle.osm_lattice.specs.declared.conflicts.Kind.TheVariants.{Crossing, Over
 use Rattle.osm_lattice.specs.declared.seg.Seg.{Seg}
 use Rattle.osm_lattice.specs.Seg.{seg_cmp}
 use Rattle.osm_lattice.proofs.LatticeKit.{seg_total, seg_same}
-use Rattle.lists.specs.Rising.{CountsDetermine, IsRising, count_of}
+use Rattle.lists.specs.Rising.{IsRising, count_of}
 use Rattle.osm_segments.specs.declared.pairs.Pair.{Pair}
 use Rattle.osm_segments.specs.Pairs.{conflicts_of, pair_cmp}
 use Rattle.osm_segments.specs.contracts.pairs.PairOrd.TheImpl.{cmp-value}

@@ -1,9 +1,9 @@
 -- The order of places, and the test whether two are one.
-use Rattle.std.proofs.Common.{Bool, ap, cond, nat_eq, refl, sym, true, ◌&&◌, ◌∙◌, ◌≡◌, ℕ}
+use Rattle.std.proofs.Common.{Bool, nat_eq, refl, sym, true, ◌&&◌, ◌∙◌, ◌≡◌}
 use Rattle.std.specs.declared.cmp.Ordering.{Ordering}
 use Rattle.std.specs.declared.cmp.Ordering.TheVariants.{Equal, Greater, Less}
 use Rattle.std.specs.Cmp.{IsEquivalence, IsTotalOrder, unsigned_ties}
-use Rattle.std.specs.Ordering.{eq_by_cmp, is_eq, nat_cmp, on, ordering_then, then_cmp}
+use Rattle.std.specs.Ordering.{eq_by_cmp, is_eq, nat_cmp, ordering_then}
 use Rattle.std.proofs.lemmas.Cmp.{eq_by_cmp_equiv, nat_cmp_total, on_total, then_total}
 use Rattle.std.proofs.lemmas.Bool.{eqb-true}
 use Rattle.lists.proofs.ListsKit.{and-left, and-right}

@@ -1,5 +1,5 @@
 -- Pairs of segments that were tried or are clear within a strip: rows, halves of a strip, and what is left to settle.
-use Rattle.std.proofs.Common.{AllPairs, Bool, Contains, cond, false, filter, true, IsPermutation, List, None, [], ap, arith, get_or, inl, inr, length, length-append, refl, subst, sym, take, ⊎_elim, ℕ, ◌++◌, ◌+◌, ◌-◌, ◌<◌, ◌<ℤ◌, ◌≤ℤ◌, ◌∙◌, ◌∷◌, ◌≡◌, ◌≢◌, ◌≤◌, ◌⊎◌}
+use Rattle.std.proofs.Common.{Bool, Contains, cond, false, filter, true, List, [], ap, arith, get_or, inl, inr, length, length-append, refl, subst, sym, take, ⊎_elim, ℕ, ◌++◌, ◌+◌, ◌-◌, ◌<◌, ◌≤ℤ◌, ◌∙◌, ◌∷◌, ◌≡◌, ◌≢◌, ◌≤◌, ◌⊎◌}
 use borrow.Author.Differences.{ints}
 use Rattle.std.proofs.lemmas.Bool.{cases_eq, cases_lt}
 use Rattle.std.proofs.Math.ListN.{get_or-append}
@@ -12,7 +12,6 @@ use Rattle.osm_lattice.specs.declared.seg.Seg.{Seg}
 use Rattle.osm_segments.specs.declared.places.Places.{Places}
 use Rattle.osm_segments.specs.declared.ranges.strips.SegAt.{SegAt}
 use Rattle.osm_segments.specs.declared.ranges.strips.Strip.{Strip}
-use Rattle.osm_segments.specs.Places.{pair_at}
 use Rattle.osm_segments.specs.Ranges.{AreKept, AreSettled, BothRun, IsConflictAt, IsGrown, IsReduced, IsSettled, IsToldOrNone, IsTried, RunClear, RunsLeft, StandInRow, height}
 use Rattle.osm_segments.proofs.StripOrders.{clear_upon, left_chain, left_in_part, turned_run}
 

@@ -1,13 +1,12 @@
 -- Who is left of whom at the heights of a strip of the tilted plane: it goes on from one to the next and between two heights, and tells that two segments don't conflict.
-use Rattle.std.proofs.Common.{Bool, None, ap, arith, inl, inr, not, refl, subst, sym, true, ⊎_elim, ◌&&◌, ◌||◌, ◌∙◌, ◌≡◌, ◌⊎◌, ℤ, ◌-ℤ◌, ◌*ℤ◌, ◌<ℤ◌, ◌≤ℤ◌, pos}
+use Rattle.std.proofs.Common.{Bool, None, ap, arith, inl, inr, not, refl, subst, sym, true, ⊎_elim, ◌&&◌, ◌||◌, ◌∙◌, ◌≡◌, ◌⊎◌, ℤ, ◌-ℤ◌, ◌*ℤ◌, ◌<ℤ◌, ◌≤ℤ◌}
 use borrow.Author.Differences.{ints}
 use Rattle.plane.specs.Height.{distance_right}
-use Rattle.plane.specs.Order.{order}
 use Rattle.plane.specs.Sign.{Minus, Null, Plus, Sign, is_minus, is_null, is_plus, sign}
-use Rattle.plane.specs.Vector.{Vector, cross, from_to, orient}
+use Rattle.plane.specs.Vector.{cross, from_to, orient}
 use Rattle.plane.specs.Conflict.{IsClearOf}
 use Rattle.plane.proofs.PlaneKit.{at-first-from, at-first-to, change-agrees, clear_back, cross-here, cross-self, order-null, orient-round}
-use Rattle.plane.proofs.SignKit.{agree, all4, all4-out, all2-out, imp, imp-out, is_plus-true, lift, null-plus, plus-null, plus-plus, plus-times, same, says-at, sign-from, times, ◌⊞◌, ◌⊟◌, ◌⊠◌}
+use Rattle.plane.proofs.SignKit.{agree, all4-out, imp, imp-out, is_plus-true, lift, null-plus, plus-null, plus-plus, plus-times, same, says-at, sign-from, times, ◌⊟◌, ◌⊠◌}
 use Rattle.osm_lattice.specs.declared.loc.Loc.{Loc}
 use Rattle.osm_lattice.specs.declared.seg.Seg.{Seg}
 use Rattle.osm_lattice.specs.Conflict.{conflict_of}

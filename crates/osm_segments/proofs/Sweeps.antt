@@ -462,10 +462,10 @@ begins-after-by o r h Minus e = let g = ap (λ o. ordering_then o r) e in absurd
 begins-after : (t s : Seg) → seg_cmp t s ≡ Less → IsNotBefore t.a s.a
 begins-after t s h = begins-after-by (loc_cmp t.a s.a) (loc_cmp t.b s.b) h (order (vector_of t.a) (vector_of s.a)) (loc_cmp-is t.a s.a)
 
-after-own : (p : Loc) → IsNotBefore p p
+pub after-own : (p : Loc) → IsNotBefore p p
 after-own p = ap (λ s. not (is_minus s)) (order-self-null (vector_of p))
 
-after-plus : (p q : Loc) → order (vector_of p) (vector_of q) ≡ Plus → IsNotBefore p q
+pub after-plus : (p q : Loc) → order (vector_of p) (vector_of q) ≡ Plus → IsNotBefore p q
 after-plus p q h = ap (λ s. not (is_minus s)) h
 
 plus-then-after : (p q r : Loc) → order (vector_of p) (vector_of q) ≡ Plus → IsNotBefore q r → order (vector_of p) (vector_of r) ≡ Plus
@@ -704,8 +704,24 @@ ends-rise ends sorted i j d h l =
     not-less Minus o e h = absurd (cc (sym (ap is_lt e) ∙ h))
 
 -- ---- a segment that doesn't begin before the next upper end, nor any later one
-after-chain : (p q r : Loc) → IsNotBefore p q → IsNotBefore q r → IsNotBefore p r
+pub after-chain : (p q r : Loc) → IsNotBefore p q → IsNotBefore q r → IsNotBefore p r
 after-chain p q r h k = sum-not-minus (order (vector_of p) (vector_of q)) (order (vector_of q) (vector_of r)) (order (vector_of p) (vector_of r)) (order-sum (vector_of p) (vector_of q) (vector_of r)) h k
+
+-- one that doesn't end after another begins has no conflict with it
+pub none_below : (s t : Seg) → IsNotBefore s.b t.a → conflict_of s t ≡ None
+none_below s t h = none_of_clear s t (clear_apart (tilted s) (tilted t) (tall-tilted s) (tall-tilted t) (after-height s.b t.a h) (subst (λ z. not (is_minus z) ≡ true) (sym (order-tilted s.b t.a)) h))
+
+pub plus-after : (p q : Loc) → is_plus (order (vector_of p) (vector_of q)) ≡ true → IsNotBefore p q
+plus-after p q h = by (order (vector_of p) (vector_of q)) h
+  where
+    by : (s : Sign) → is_plus s ≡ true → not (is_minus s) ≡ true
+    by Plus e = refl
+    by Null e = refl
+    by Minus e = absurd (cc e)
+
+-- p isn't before q
+pub not-after : (p q : Loc) → is_plus (order (vector_of p) (vector_of q)) ≡ false → IsNotBefore q p
+not-after p q h = not-minus-back (order (vector_of p) (vector_of q)) (order (vector_of q) (vector_of p)) (order-reversed (vector_of p) (vector_of q)) h
 
 pub leaves-by : (segs : List Seg) → IsRising seg_cmp segs → (next : ℕ) (e : Loc) (s : Seg) → s ≡ get_or segs next s → next < length segs → is_plus (order (vector_of s.a) (vector_of e)) ≡ false →
     (i : ℕ) (d : Seg) → next ≤ i → i < length segs → IsNotBefore e (get_or segs i d).a

@@ -1,5 +1,5 @@
 -- The places that were told, in order and each once, are those of all conflicts of a list.
-use Rattle.std.proofs.Common.{All, Contains, List, None, Option, Some, [], ap, arith, cond, get_or, inl, inr, length, map, option_map, refl, subst, suc, sym, zero, ⊎_elim, ℕ, ◌++◌, ◌+◌, ◌<◌, ◌≤◌, ◌∙◌, ◌∷◌, ◌≡◌, ◌⊎◌, min}
+use Rattle.std.proofs.Common.{All, Contains, List, None, Option, Some, [], ap, arith, cond, get_or, inl, inr, length, map, option_map, refl, subst, suc, sym, zero, ⊎_elim, ℕ, ◌<◌, ◌∙◌, ◌∷◌, ◌≡◌, ◌⊎◌}
 use Rattle.std.specs.List.{cons_option, filter_map, slice_get}
 use Rattle.std.specs.Option.{option_and_then}
 use Rattle.std.specs.declared.cmp.Ordering.{Ordering}
@@ -25,9 +25,9 @@ use Rattle.osm_segments.specs.declared.places.Places.{Places}
 use Rattle.osm_segments.specs.contracts.pairs.PairOrd.TheImpl.{cmp-value}
 use Rattle.osm_segments.specs.Pairs.{conflicts_of, pair_cmp, pair_of}
 use Rattle.osm_segments.specs.Places.{AreConflictPlaces, pair_at}
-use Rattle.osm_segments.specs.Ranges.{AreToldOrClear, IsConflictAt, IsGrown, IsToldOrNone, IsTried, places_cmp}
+use Rattle.osm_segments.specs.Ranges.{AreToldOrClear, IsConflictAt, IsGrown, IsTried, places_cmp}
 use Rattle.osm_segments.proofs.FoundPairs.{pair_exact, pair_itself, rising_whole, same_once}
-use Rattle.osm_segments.proofs.RisingPairs.{IsOf, before_by_first, before_by_second, conflicts_rising, pair_is}
+use Rattle.osm_segments.proofs.RisingPairs.{before_by_first, before_by_second, conflicts_rising, pair_is}
 use Rattle.osm_segments.proofs.ConflictPlaces.{pair-at_both}
 
 -- ---- items that a test keeps

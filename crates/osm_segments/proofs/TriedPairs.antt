@@ -1,5 +1,5 @@
 -- Pairs that were tried one by one, and locations that aren't lower than others.
-use Rattle.std.proofs.Common.{Bool, Contains, List, Err, Ok, Option, Result, Some, None, ap, arith, false, get_or, inl, inr, length, refl, subst, sym, true, ⊎_elim, ℕ, ℤ, ◌++◌, ◌+◌, ◌-ℤ◌, ◌<◌, ◌≤ℤ◌, ◌∙◌, ◌∷◌, [], ◌≡◌, ◌≢◌, ◌≤◌, ◌⊎◌}
+use Rattle.std.proofs.Common.{Contains, List, Err, Ok, Option, Result, Some, None, ap, arith, false, get_or, inl, inr, length, refl, subst, sym, true, ⊎_elim, ℕ, ◌++◌, ◌-ℤ◌, ◌<◌, ◌≤ℤ◌, ◌∙◌, ◌∷◌, [], ◌≡◌, ◌≢◌, ◌≤◌, ◌⊎◌}
 use borrow.Author.Differences.{ints}
 use Rattle.std.specs.Ordering.{is_lt}
 use Rattle.std.specs.Option.{is_some}
@@ -9,7 +9,7 @@ use Rattle.std.proofs.lemmas.Option.{slice_get-get_or}
 use Rattle.std.proofs.lemmas.List.Elements.{Contains-append_cases, Contains-append_left}
 use Rattle.lists.proofs.ListsKit.{member_cases, no_member, same_get}
 use Rattle.plane.specs.Order.{order}
-use Rattle.plane.specs.Sign.{Minus, Null, Plus, Sign, sign}
+use Rattle.plane.specs.Sign.{Minus, Null, Plus, Sign}
 use Rattle.plane.proofs.SignKit.{says-at}
 use Rattle.osm_lattice.specs.declared.loc.Loc.{Loc}
 use Rattle.osm_lattice.specs.declared.seg.Seg.{Seg}
@@ -21,9 +21,10 @@ use Rattle.osm_segments.specs.declared.places.Places.{Places}
 use Rattle.osm_segments.specs.declared.ranges.strips.SegAt.{SegAt}
 use Rattle.osm_segments.specs.declared.ranges.strips.Strip.{Strip}
 use Rattle.osm_segments.specs.Places.{pair_at}
-use Rattle.osm_segments.specs.Sweep.{AreInTheWay}
-use Rattle.osm_segments.specs.Ranges.{AreSettled, AreToldOrClear, IsConflictAt, IsGrown, IsSettled, IsTried, RunClear, height}
+use Rattle.osm_segments.specs.Sweep.{AreInTheWay, IsNotBefore}
+use Rattle.osm_segments.specs.Ranges.{AreSettled, AreToldOrClear, IsConflictAt, IsGrown, IsSettled, IsTried, height}
 use Rattle.osm_segments.proofs.SettledPairs.{turned_settled}
+use Rattle.osm_segments.proofs.Sweeps.{none_below}
 use Rattle.osm_segments.proofs.StripOrders.{clear_everywhere}
 use Rattle.osm_segments.proofs.TiltedEdges.{height-tilted}
 use Rattle.osm_segments.proofs.ToldPlaces.{clear_at_places, own_place}
@@ -120,6 +121,14 @@ told_or_clear [] told strip all low high long each settled i j l h = absurd (ome
 told_or_clear (s0 ∷ ss) told strip all low high long each settled i j l h =
     let d : SegAt = record { seg = s0; place = 0 } in let s : SegAt = get_or all i d in let t : SegAt = get_or all j d in
     by_settled s0 ss told strip all low high each i j l h (settled s t (i, omega (arith, long), same_get all i s d (omega (arith, long))) (j, omega (arith, long), same_get all j t d (omega (arith, long))))
+
+-- one that lies below another, or above it, counts as tried with it
+module _ (segs : List Seg) (told : List Places) (i j : ℕ) (s t : Seg) (first : i < length segs) (second : j < length segs) (s-is : get_or segs i s ≡ s) (t-is : get_or segs j t ≡ t) where
+  pub tried_below : IsNotBefore s.b t.a → IsTried segs told i j
+  tried_below h = inl (inr (clear_at_places segs (record { first = i; second = j }) s t (slice_get-get_or segs i s first ∙ ap Some s-is) (slice_get-get_or segs j t second ∙ ap Some t-is) (none_below s t h)))
+
+  pub tried_above : IsNotBefore t.b s.a → IsTried segs told i j
+  tried_above h = inr (inr (clear_at_places segs (record { first = j; second = i }) t s (slice_get-get_or segs j t second ∙ ap Some t-is) (slice_get-get_or segs i s first ∙ ap Some s-is) (none_below t s h)))
 
 -- few were tried with all, and of each two others that conflict there is none
 pub told_by_few : (segs aside sorted : List Seg) (few : List ℕ) (told : List Places) (count : ℕ) → count ≡ length segs → AreInTheWay segs aside → ((s : Seg) → Contains aside s → Contains sorted s) →

@@ -1,6 +1,5 @@
 -- How an outline is recognized. No public contract cites this.
-use Rattle.std.specs.Prelude.{List, Option, None, Some, Vec, IfSome}
-use Rattle.std.specs.declared.alloc.Global.{Global}
+use Rattle.std.specs.Prelude.{List}
 use Rattle.osm_lattice.specs.declared.seg.Seg.{Seg}
 use Rattle.osm_segments.specs.declared.outline.Told.{Told}
 use Rattle.osm_segments.specs.declared.outline.Told.TheVariants.{Whole, Sorted, Faulty}

@@ -170,7 +170,7 @@ pub fn by_ends(alloc: Global, segs: &[Seg]) -> Result<Vec<Seg>, OutOfMemory>
 }
 
 #[tactic(auto, using(osm_lattice::proofs::LocationOrder::is_lt_before), unfolding(osm_lattice::specs::ConflictTests::before))]
-fn is_before(p: Loc, q: Loc) -> bool
+pub(crate) fn is_before(p: Loc, q: Loc) -> bool
     ensures { result ≡ is_plus (order (vector_of p) (vector_of q)) }
 {
     p < q

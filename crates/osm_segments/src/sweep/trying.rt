@@ -1,20 +1,25 @@
 //! Few segments that are in the way of a sweep, tried with all.
-ghost use Rattle.std.specs.Prelude.{◌≡◌, ◌<◌, ℕ, Contains, IfOk, None, OnOk, length, slice_index_or, true};
+ghost use Rattle.std.specs.Prelude.{◌≡◌, ◌<◌, ◌≤◌, ℕ, Contains, List, IfOk, None, OnOk, length, slice_index_or, true};
 ghost use Rattle.std.specs.List.Sorted.{IsSorted};
 ghost use Rattle.osm_lattice.specs.declared.seg.Seg.{Seg};
 ghost use Rattle.osm_lattice.specs.Seg.{seg_cmp};
 ghost use Rattle.lists.specs.Rising.{IsRising};
+ghost use Rattle.osm_segments.specs.declared.places.Places.{Places};
 ghost use Rattle.osm_segments.specs.Places.{AreConflictPlaces, pair_at};
 ghost use Rattle.osm_segments.specs.Ranges.{AreToldOrClear, IsGrown, IsTried};
-ghost use Rattle.osm_segments.specs.Sweep.{AreInTheWay};
+ghost use Rattle.osm_segments.specs.Sweep.{AreInTheWay, IsNotBefore};
 
 use crate::pairs::Pair;
 use crate::places::Places;
 use crate::ranges::division::each_once;
 use crate::ranges::telling::try_pair;
+use crate::sweep::steps::{is_before, next_enters};
 use lists::{counts_determine, is_among};
-use osm_lattice::{Seg, are_apart, conflicts_are_symmetric};
+use osm_lattice::{Loc, Seg, are_apart, conflicts_are_symmetric};
 use std::alloc::{AllocError as OutOfMemory, Global};
+
+/// So many segments are looked at together: a segment that begins above all of them, or ends below, is tried with none.
+const PART: u32 = 64;
 
 /// Whether the segments at two places lie apart.
 fn are_apart_at(segs: &[Seg], i: u32, j: u32) -> bool
@@ -39,31 +44,98 @@ fn try_near(told: &mut Vec<Places>, segs: &[Seg], i: u32, j: u32) -> Result<(), 
     try_pair(told, usize::MAX, segs, i, j)
 }
 
-/// Tries the segments at few places with the one at another.
-fn try_with_few(
+/// The latest upper end of segments from one place up to another.
+fn latest_end(segs: &[Seg], from: u32, to: u32) -> Loc
+    requires some { from < to }
+    requires within { to ≤ length segs.now }
+    ensures { (j : ℕ) (d : Seg) → from ≤ j → j < to
+        → IsNotBefore (slice_index_or segs.now j d).b result }
+{
+    let mut latest = segs[from as usize].b;
+    for j in from..to {
+        let end = segs[j as usize].b;
+        if is_before(latest, end) {
+            latest = end;
+        }
+    }
+    latest
+}
+
+/// Whether the segment at a place lies above others or below them. They stand from one place up to another, and `latest` is the latest of
+/// their upper ends.
+fn is_beside(segs: &[Seg], i: u32, from: u32, to: u32, latest: Loc) -> bool
+    requires rising { IsRising seg_cmp segs.now }
+    requires within { to ≤ length segs.now }
+    requires latest { (j : ℕ) (d : Seg) → from ≤ j → j < to
+        → IsNotBefore (slice_index_or segs.now j d).b latest }
+    ensures { result ≡ true → (told : List Places) (j : ℕ) → from ≤ j → j < to
+        → IsTried segs.now told i j }
+{
+    let place = i as usize;
+    if place >= segs.len() {
+        return false;
+    }
+    if !is_before(segs[place].a, latest) {
+        return true;
+    }
+    !next_enters(segs, from as usize, segs[place])
+}
+
+/// Tries the segment at a place with those from another place up to a third.
+fn try_part(
     told: &mut Vec<Places>,
     segs: &[Seg],
-    few: &[u32],
-    j: u32,
+    i: u32,
+    from: u32,
+    to: u32,
 ) -> Result<(), OutOfMemory>
     ensures grown { OnOk result (IsGrown segs.now told.old.items told.new.items) }
-    ensures tried { OnOk result ((i : ℕ) → Contains few.now i
+    ensures tried { OnOk result ((j : ℕ) → from ≤ j → j < to
         → IsTried segs.now told.new.items i j) }
 {
-    for &i in few {
+    for j in from..to {
         try_near(told, segs, i, j)?;
     }
     Ok(())
 }
 
-/// Tries the segments at few places with all those before a place.
+/// Tries the segments at few places with those from one place up to another.
+fn try_with_few(
+    told: &mut Vec<Places>,
+    segs: &[Seg],
+    few: &[u32],
+    from: u32,
+    to: u32,
+) -> Result<(), OutOfMemory>
+    requires rising { IsRising seg_cmp segs.now }
+    requires some { from < to }
+    requires within { to ≤ length segs.now }
+    ensures grown { OnOk result (IsGrown segs.now told.old.items told.new.items) }
+    ensures tried { OnOk result ((i j : ℕ) → Contains few.now i → from ≤ j → j < to
+        → IsTried segs.now told.new.items i j) }
+{
+    let latest = latest_end(segs, from, to);
+    for &i in few {
+        if !is_beside(segs, i, from, to, latest) {
+            try_part(told, segs, i, from, to)?;
+        }
+    }
+    Ok(())
+}
+
+/// Tries the segments at few places with all.
 fn try_few(told: &mut Vec<Places>, segs: &[Seg], few: &[u32], count: u32) -> Result<(), OutOfMemory>
+    requires rising { IsRising seg_cmp segs.now }
+    requires count { count ≡ length segs.now }
     ensures grown { OnOk result (IsGrown segs.now told.old.items told.new.items) }
     ensures tried { OnOk result ((i j : ℕ) → Contains few.now i → j < count
         → IsTried segs.now told.new.items i j) }
 {
-    for j in 0..count {
-        try_with_few(told, segs, few, j)?;
+    let mut from = 0;
+    while from < count {
+        let to = from + PART.min(count - from);
+        try_with_few(told, segs, few, from, to)?;
+        from = to;
     }
     Ok(())
 }
@@ -96,7 +168,8 @@ fn settle_few(
     segs: &[Seg],
     mut aside: Vec<Seg>,
 ) -> Result<(), OutOfMemory>
-    requires { AreInTheWay segs.now aside.items }
+    requires rising { IsRising seg_cmp segs.now }
+    requires others { AreInTheWay segs.now aside.items }
     ensures grown { OnOk result (IsGrown segs.now told.old.items told.new.items) }
     ensures told { OnOk result (AreToldOrClear segs.now told.new.items) }
 {

@@ -1,4 +1,4 @@
-use Rattle.std.proofs.Common.{FitsSigned, ap, arith, rules, sym, ◌∙◌}
+use Rattle.std.proofs.Common.{FitsSigned, ap, arith, rules, ◌∙◌}
 use Rattle.std.specs.Int.{w128, w64}
 use Rattle.std.proofs.lemmas.Int.{to_z-of_z}
 use Rattle.osm_lattice.specs.OrderLaws.{ordering_of}

@@ -1,5 +1,4 @@
 use Rattle.std.proofs.Common.{Contains, ap, inl, inr, subst, sym, ⊎_elim, ◌++◌, ◌∙◌, ◌∷◌, [], ◌≡◌}
-use Rattle.osm_segments.specs.declared.ranges.strips.SegAt.{SegAt}
 use Rattle.osm_segments.proofs.SettledPairs.{all_taken, went_first, went_second}
 use Rattle.osm_segments.proofs.ranges.rows.part_each.Goals as goal
 use Rattle.osm_segments.proofs.ranges.rows.part_each.Goals.{then-runs_through+in_ok-push, else-runs_through+in_ok-push-2}

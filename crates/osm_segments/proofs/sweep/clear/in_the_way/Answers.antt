@@ -1,11 +1,10 @@
-use Rattle.std.proofs.Common.{Contains, List, ap, arith, get_or, length, not, subst, sym, true, ◌++◌, ◌+◌, ◌<◌, ◌∙◌, ◌∷◌, [], ◌≡◌}
+use Rattle.std.proofs.Common.{Contains, ap, arith, get_or, length, subst, sym, ◌++◌, ◌+◌, ◌<◌, ◌∙◌, ◌∷◌, [], ◌≡◌}
 use Rattle.std.proofs.lemmas.Bool.Decides.{nat_tests}
 use Rattle.std.proofs.lemmas.List.Edits.{length-insert, length-remove}
 use Rattle.std.proofs.lemmas.List.Sorted.{Contains-permutation}
 use Rattle.std.proofs.lemmas.Map.Views.{Contains-from_any}
 use Rattle.plane.specs.Order.{order}
-use Rattle.plane.specs.Sign.{Plus, is_minus}
-use Rattle.lists.specs.Member.{In}
+use Rattle.plane.specs.Sign.{Plus}
 use Rattle.lists.proofs.ListsKit.{same_get}
 use Rattle.osm_lattice.specs.declared.seg.Seg.{Seg}
 use Rattle.osm_lattice.specs.Loc.{vector_of}

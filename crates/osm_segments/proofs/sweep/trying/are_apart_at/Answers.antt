@@ -1,6 +1,5 @@
-use Rattle.std.proofs.Common.{Some, ap, arith, get_or, sym, ◌∙◌, ◌≡◌}
+use Rattle.std.proofs.Common.{Some, ap, arith, sym, ◌∙◌}
 use Rattle.std.proofs.lemmas.Option.{slice_get-get_or}
-use Rattle.lists.proofs.ListsKit.{same_get}
 use Rattle.osm_segments.proofs.ToldPlaces.{clear_at_places}
 use Rattle.osm_segments.proofs.sweep.trying.are_apart_at.Goals as goal
 
