@@ -1,10 +1,11 @@
 -- The conflicts that were found, each once and in order, are those of the definition.
-use Rattle.std.proofs.Common.{Bool, true, false, ◌||◌, ◌≡◌, ◌<◌, ◌≤◌, ◌+◌, ⊎_elim, ℕ, zero, suc, subst, List, [], ◌∷◌, get_or, min, cond, refl, sym, ap, ◌∙◌, arith}
+use Rattle.std.proofs.Common.{true, ◌≡◌, ◌<◌, ◌≤◌, ◌+◌, ⊎_elim, ℕ, zero, suc, subst, List, [], ◌∷◌, get_or, min, cond, refl, sym, ap, ◌∙◌, arith}
 use Rattle.std.specs.Prelude.{Contains}
 use Rattle.std.specs.List.{list_any}
 use Rattle.std.specs.declared.cmp.Ordering.{Ordering}
 use Rattle.std.specs.declared.cmp.Ordering.TheVariants.{Less, Equal, Greater}
 use Rattle.std.specs.Ordering.{is_eq, ordering_then}
+use Rattle.std.proofs.lemmas.Bool.{or_right}
 use Rattle.std.proofs.lemmas.Cmp.{tied_itself}
 use Rattle.osm_lattice.specs.declared.conflicts.Kind.{Kind}
 use Rattle.osm_lattice.specs.declared.conflicts.Kind.TheVariants.{Crossing, Overlap}
@@ -117,9 +118,5 @@ any_there s [] c = absurd (no_member s c)
 any_there s (x ∷ xs) c =
     ⊎_elim
     (λ (e : x ≡ s). let tied = ap is_eq (ap (λ u. seg_cmp u s) e ∙ tied_itself seg_total s) in rw tied refl)
-    (λ (k : Contains xs s). or-right (is_eq (seg_cmp x s)) (list_any (λ other. is_eq (seg_cmp other s)) xs) (any_there s xs k))
+    (λ (k : Contains xs s). or_right (is_eq (seg_cmp x s)) (list_any (λ other. is_eq (seg_cmp other s)) xs) (any_there s xs k))
     (member_cases x s xs c)
-  where
-    or-right : (a b : Bool) → b ≡ true → (a || b) ≡ true
-    or-right true b h = refl
-    or-right false b h = h

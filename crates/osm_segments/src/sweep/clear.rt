@@ -28,8 +28,8 @@ pub fn in_the_way(
     requires rising { IsRising seg_cmp segs.now }
     requires moved { IsPermutation segs.now ends.now }
     requires rise { EndsRise ends.now }
-    ensures others { IfOk result (λ found. IfSome found (λ aside. AreInTheWay segs.now aside.items)) }
-    ensures few { IfOk result (λ found. IfSome found (λ aside. length aside.items ≤ most)) }
+    ensures others { IfOk result (λ found. IfSome found (λ v. AreInTheWay segs.now v.items)) }
+    ensures few { IfOk result (λ found. IfSome found (λ v. length v.items ≤ most)) }
 {
     let mut status = ChunkedList::new(alloc);
     let mut aside = Vec::new(alloc);
@@ -83,7 +83,7 @@ pub fn is_clear_by_ends(alloc: Global, segs: &[Seg]) -> Result<bool, OutOfMemory
 /// Few segments without which the others, of those in strict order, have no conflict, if one sweep finds them.
 pub fn few_in_the_way(alloc: Global, segs: &[Seg]) -> Result<Option<Vec<Seg>>, OutOfMemory>
     requires { IsRising seg_cmp segs.now }
-    ensures { IfOk result (λ found. IfSome found (λ aside. AreInTheWay segs.now aside.items)) }
+    ensures { IfOk result (λ found. IfSome found (λ v. AreInTheWay segs.now v.items)) }
 {
     let ends = by_ends(alloc, segs)?;
     in_the_way(alloc, segs, &ends, FEW)
