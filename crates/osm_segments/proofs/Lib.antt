@@ -10,6 +10,7 @@ mod OutlineFaults
 mod Parities
 mod PlaceOrders
 mod RepeatLists
+mod RepeatSteps
 mod RisingPairs
 mod SegmentTests
 pub mod SegmentsKit

@@ -1,8 +1,13 @@
 //! What counting shows about a list of segments: survivors, repeats, and nodes at which an odd number end.
 
-ghost use Rattle.std.specs.Prelude.{◌≡◌, ◌++◌, IfOk, OnOk, length, map};
+ghost use Rattle.std.specs.Prelude.{◌≡◌, ◌++◌, ◌-◌, IfOk, OnOk, map};
+ghost use Rattle.std.specs.List.Sorted.{IsSorted};
+ghost use Rattle.std.specs.Ordering.{is_lt};
+ghost use Rattle.lists.specs.Rising.{count_of};
+ghost use Rattle.osm_lattice.specs.declared.seg.Seg.{Seg};
+ghost use Rattle.osm_lattice.specs.Seg.{seg_cmp};
 ghost use Rattle.osm_segments.specs.Counts.{AreSurvivors, AreDistinct, AreOddNodes};
-ghost use Rattle.osm_segments.specs.Repeats.{AreRepeats, StandOnce, repeat_of};
+ghost use Rattle.osm_segments.specs.Repeats.{AreRepeats, repeat_of};
 
 use lists::{Tally, distinct_items, distinct_items_of, odd_items, odd_items_of, repeated_items};
 use osm_lattice::{Loc, Seg};
@@ -65,15 +70,50 @@ pub fn repeated(alloc: Global, segs: &[Seg]) -> Result<Vec<Repeat>, OutOfMemory>
     repeats_of(alloc, &tallies)
 }
 
-/// The repeats of a list of which `survivors` segments survive: none, if all do.
-fn repeats_beside(alloc: Global, segs: &[Seg], survivors: usize) -> Result<Vec<Repeat>, OutOfMemory>
-    requires { survivors ≡ length segs.now → StandOnce segs.now }
-    ensures { IfOk result (λ v. AreRepeats segs.now v.items) }
+fn comes_before(s: Seg, t: Seg) -> bool
+    ensures { result ≡ is_lt (seg_cmp s t) }
 {
-    if survivors == segs.len() {
+    s < t
+}
+
+/// The segments of a list in order that equal the one before them.
+fn equal_to_last(alloc: Global, sorted: &[Seg]) -> Result<Vec<Seg>, OutOfMemory>
+    requires { IsSorted seg_cmp sorted.now }
+    ensures { IfOk result (λ v. (s : Seg) → count_of seg_cmp s v.items
+        ≡ count_of seg_cmp s sorted.now - 1) }
+{
+    let mut equal = Vec::new(alloc);
+    for place in 1..sorted.len() {
+        if !comes_before(sorted[place - 1], sorted[place]) {
+            equal.push(sorted[place])?;
+        }
+    }
+    Ok(equal)
+}
+
+/// The repeats of a list in order. Only those that occur at least twice are counted.
+fn repeats_along(alloc: Global, sorted: &[Seg]) -> Result<Vec<Repeat>, OutOfMemory>
+    requires { IsSorted seg_cmp sorted.now }
+    ensures { IfOk result (λ v. AreRepeats sorted.now v.items) }
+{
+    let mut copies = equal_to_last(alloc, sorted)?;
+    if copies.is_empty() {
         return Ok(Vec::new(alloc));
     }
-    repeated(alloc, segs)
+    let once = distinct(alloc, &copies)?;
+    copies.extend_from_slice(&once)?;
+    repeated(alloc, &copies)
+}
+
+/// The segments of a list in order.
+fn in_order(alloc: Global, segs: &[Seg]) -> Result<Vec<Seg>, OutOfMemory>
+    ensures counts { IfOk result (λ v. (s : Seg) → count_of seg_cmp s v.items
+        ≡ count_of seg_cmp s segs.now) }
+    ensures order { IfOk result (λ v. IsSorted seg_cmp v.items) }
+{
+    let mut sorted = Vec::from_slice(alloc, segs)?;
+    sorted.sort_unstable();
+    Ok(sorted)
 }
 
 /// Cancels the segments of a list that occur there repeatedly: gives what survives and what was repeated.
@@ -81,8 +121,9 @@ pub fn cancel(alloc: Global, segs: &[Seg]) -> Result<Cancelled, OutOfMemory>
     ensures survivors { IfOk result (λ c. AreSurvivors segs.now c.survivors.items) }
     ensures repeats { IfOk result (λ c. AreRepeats segs.now c.repeats.items) }
 {
-    let survivors = odd_items(alloc, segs)?;
-    let repeats = repeats_beside(alloc, segs, survivors.len())?;
+    let sorted = in_order(alloc, segs)?;
+    let repeats = repeats_along(alloc, &sorted)?;
+    let survivors = odd_items_of(sorted)?;
     Ok(Cancelled { survivors, repeats })
 }
 

@@ -1,8 +1,9 @@
-use Rattle.std.proofs.Common.{arith, length, ◌≡◌}
+use Rattle.std.proofs.Common.{ap, ◌∙◌}
+use Rattle.lists.specs.Rising.{count_of}
+use Rattle.osm_lattice.specs.Seg.{seg_cmp}
+use Rattle.osm_segments.proofs.RepeatSteps.{repeats_alike}
 use Rattle.osm_segments.proofs.counts.cancel.Goals as goal
 
-pub repeats_beside-requires : goal.repeats_beside-requires
-repeats_beside-requires c as_many =
-    let told = c.len.ensures in let whole = c.in_ok-survivors.survivors.ok in
-    let all : length c.in_ok-survivors.survivors.items ≡ length c.args.segs.now = omega arith in
-    c.in_ok-survivors.ensures.once all
+pub returns-clause-repeats : goal.returns-clause-repeats
+returns-clause-repeats c =
+    repeats_alike c.deref.result.now c.args.segs.now c.in_ok-repeats.repeats.items (λ s. ap (count_of seg_cmp s) c.deref.ensures.value ∙ c.in_ok-sorted.ensures.counts s) c.in_ok-repeats.ensures
