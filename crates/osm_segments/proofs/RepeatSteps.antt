@@ -6,11 +6,11 @@ use Rattle.std.specs.Ordering.{is_eq, is_lt, ordering_reverse}
 use Rattle.std.specs.List.Sorted.{IsSorted}
 use Rattle.std.proofs.lemmas.Bool.{cases_Bool}
 use Rattle.std.proofs.lemmas.Cmp.{tied_itself}
-use Rattle.std.proofs.lemmas.List.{get_or-take, length-take}
+use Rattle.std.proofs.lemmas.List.{get_or-take, get_or_default, length-take}
 use Rattle.std.proofs.lemmas.List.Sorted.{ranks_by, sorted_far}
 use Rattle.std.proofs.lemmas.List.Sums.{sum_by_push, sum_by-le}
 use Rattle.lists.specs.Rising.{count_of}
-use Rattle.lists.proofs.ListsKit.{first_member, later_member, same_get, taken_more}
+use Rattle.lists.proofs.ListsKit.{equal_from, first_member, later_member, taken_more}
 use Rattle.osm_lattice.specs.declared.seg.Seg.{Seg}
 use Rattle.osm_lattice.specs.Seg.{seg_cmp}
 use Rattle.osm_lattice.proofs.LatticeKit.{seg_same, seg_total}
@@ -23,11 +23,6 @@ tied : (r : Ordering) → is_lt r ≡ false → is_lt (ordering_reverse r) ≡ f
 tied Less h k = absurd (cc h)
 tied Equal h k = refl
 tied Greater h k = absurd (cc k)
-
-is-equal : (r : Ordering) → is_eq r ≡ true → r ≡ Equal
-is-equal Less h = absurd (cc h)
-is-equal Equal h = refl
-is-equal Greater h = absurd (cc h)
 
 one_push : (s y : Seg) (xs : List Seg) → count_of seg_cmp s (xs ++ y ∷ []) ≡ count_of seg_cmp s xs + cond (is_eq (seg_cmp y s)) 1 0
 one_push s y xs = sum_by_push (λ (t : Seg). cond (is_eq (seg_cmp t s)) 1 0) xs y
@@ -53,8 +48,8 @@ module _ (xs : List Seg) (sorted : IsSorted seg_cmp xs) (place : ℕ) (some : 0 
   none_before less s e =
       none_there s (take place xs) (λ k c h. ⊎_elim (λ (yes : is_eq (seg_cmp (get_or (take place xs) k c) s) ≡ true).
       let low : k < place = omega (arith, h, length-take place xs) in
-      let there : get_or xs k d ≡ s = sym (same_get xs k c d (omega arith)) ∙ (sym (get_or-take place xs k c low) ∙ seg_same (get_or (take place xs) k c) s (is-equal (seg_cmp (get_or (take place xs) k c) s) yes)) in
-      let here : this ≡ s = seg_same this s (is-equal (seg_cmp this s) e) in
+      let there : get_or xs k d ≡ s = sym (get_or_default xs k c d (omega arith)) ∙ (sym (get_or-take place xs k c low) ∙ seg_same (get_or (take place xs) k c) s (equal_from (seg_cmp (get_or (take place xs) k c) s) yes)) in
+      let here : this ≡ s = seg_same this s (equal_from (seg_cmp this s) e) in
       let far : is_lt (seg_cmp last (get_or xs k d)) ≡ false = sorted_far (λ y z. is_lt (seg_cmp y z)) (ranks_by seg_total (λ (y : Seg). y)) xs sorted k (place - 1) d (omega arith) (omega arith) in
       absurd (cc (sym less ∙ ap (λ t. is_lt (seg_cmp last t)) (here ∙ sym there) ∙ far)))
       (λ no. no) (cases_Bool (is_eq (seg_cmp (get_or (take place xs) k c) s))))
@@ -67,9 +62,9 @@ module _ (xs : List Seg) (sorted : IsSorted seg_cmp xs) (place : ℕ) (some : 0 
 
   stands_before : is_lt (seg_cmp last this) ≡ false → (s : Seg) → is_eq (seg_cmp this s) ≡ true → 0 < count_of seg_cmp s (take place xs)
   stands_before not-less s e =
-      let there : last ≡ s = same_as_last not-less ∙ seg_same this s (is-equal (seg_cmp this s) e) in
+      let there : last ≡ s = same_as_last not-less ∙ seg_same this s (equal_from (seg_cmp this s) e) in
       counted (tied_itself seg_total) seg_same s (take place xs)
-      (place - 1, omega (arith, length-take place xs), get_or-take place xs (place - 1) s (omega arith) ∙ (same_get xs (place - 1) s d (omega arith) ∙ there))
+      (place - 1, omega (arith, length-take place xs), get_or-take place xs (place - 1) s (omega arith) ∙ (get_or_default xs (place - 1) s d (omega arith) ∙ there))
 
   step : (n c : ℕ) (b : Bool) → n ≡ c - 1 → (b ≡ true → 0 < c) → n + cond b 1 0 ≡ c + cond b 1 0 - 1
   step n c true e h = let z = h refl in omega (arith, e, z)
@@ -80,7 +75,7 @@ module _ (xs : List Seg) (sorted : IsSorted seg_cmp xs) (place : ℕ) (some : 0 
   skip n c false e h = omega (arith, e)
 
   more : (s : Seg) → count_of seg_cmp s (take (place + 1) xs) ≡ count_of seg_cmp s (take place xs) + cond (is_eq (seg_cmp this s)) 1 0
-  more s = ap (count_of seg_cmp s) (taken_more xs place this inside (same_get xs place d this inside)) ∙ one_push s this (take place xs)
+  more s = ap (count_of seg_cmp s) (taken_more xs place this inside (get_or_default xs place d this inside)) ∙ one_push s this (take place xs)
 
   pub equal_more : (s : Seg) (found : List Seg) → is_lt (seg_cmp last this) ≡ false → count_of seg_cmp s found ≡ count_of seg_cmp s (take place xs) - 1 → count_of seg_cmp s (found ++ this ∷ []) ≡ count_of seg_cmp s (take (place + 1) xs) - 1
   equal_more s found not-less e =

@@ -1,5 +1,5 @@
 -- The segments that occur at least twice in a list.
-use Rattle.std.specs.Prelude.{◌≡◌, ◌≤◌, List, All, map, nat_le, if◌then◌else◌}
+use Rattle.std.specs.Prelude.{◌≡◌, List, All, map, nat_le, if◌then◌else◌}
 use Rattle.osm_lattice.specs.declared.seg.Seg.{Seg}
 use Rattle.osm_lattice.specs.Seg.{seg_cmp}
 use Rattle.lists.specs.Rising.{IsRising, count_of}
@@ -14,10 +14,6 @@ pub record AreRepeats (segs : List Seg) (repeats : List Repeat) : Type 0 where
   pub twice : (s : Seg) → count_of seg_cmp s (segs_of repeats) ≡ (if nat_le 2 (count_of seg_cmp s segs) then 1 else 0)
   pub times : All (λ r. r.times ≡ count_of seg_cmp r.seg segs) repeats
   pub rising : IsRising seg_cmp (segs_of repeats)
-
--- no segment occurs twice
-abbrev pub StandOnce : List Seg → Type 0
-StandOnce segs = (s : Seg) → count_of seg_cmp s segs ≤ 1
 
 -- a tally of segments
 abbrev pub repeat_of : Tally Seg → Repeat

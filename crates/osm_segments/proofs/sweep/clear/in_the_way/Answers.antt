@@ -1,11 +1,11 @@
 use Rattle.std.proofs.Common.{Contains, ap, arith, get_or, length, subst, sym, ◌++◌, ◌+◌, ◌<◌, ◌∙◌, ◌∷◌, [], ◌≡◌}
+use Rattle.std.proofs.lemmas.List.{get_or_default}
 use Rattle.std.proofs.lemmas.Bool.Decides.{nat_tests}
 use Rattle.std.proofs.lemmas.List.Edits.{length-insert, length-remove}
 use Rattle.std.proofs.lemmas.List.Sorted.{Contains-permutation}
 use Rattle.std.proofs.lemmas.Map.Views.{Contains-from_any}
 use Rattle.plane.specs.Order.{order}
 use Rattle.plane.specs.Sign.{Plus}
-use Rattle.lists.proofs.ListsKit.{same_get}
 use Rattle.osm_lattice.specs.declared.seg.Seg.{Seg}
 use Rattle.osm_lattice.specs.Loc.{vector_of}
 use Rattle.osm_segments.specs.Sweep.{IsFollowed, IsNotBefore}
@@ -34,7 +34,7 @@ loop-left-preserved-then-next_enters c =
             subst (λ xs. IsSwept segs ends xs (next + 1) left new) (sym more) (subst (IsSwept segs ends (aside ++ t ∷ []) (next + 1) left) (sym kept)
             (has_stepped_aside segs ends aside c.requires.rising next left old swept t w.index-segs-next-then-not-branch.is inside))
         | else-not-branch w ↦
-            let end : c.index-ends-left.result ≡ get_or ends left s = c.index-ends-left.is ∙ same_get ends left c.index-ends-left.result s some in
+            let end : c.index-ends-left.result ≡ get_or ends left s = c.index-ends-left.is ∙ get_or_default ends left c.index-ends-left.result s some in
             let first : order (vector_of s.a) (vector_of (get_or ends left s).b) ≡ Plus =
             subst (λ (t : Seg). order (vector_of s.a) (vector_of t.b) ≡ Plus) end (subst (λ (t : Seg). order (vector_of t.a) (vector_of c.index-ends-left.result.b) ≡ Plus) (sym c.index-segs-next.is) (c.next_enters.ensures.enters c.if-next_enters.true s)) in
             let same : c.if-not-branch.aside.items ≡ aside = ap (λ v. v.items) w.aside-is in
@@ -53,11 +53,11 @@ loop-left-preserved-then-follow c =
     let some : left < length ends = omega (arith, more) in
     let changed : IsFollowed t s c.loop-left.status c.follow.new.status = c.follow.ensures.followed c.if-follow.true d in
     let first : order (vector_of s.a) (vector_of (get_or ends (left + 1) s).b) ≡ Plus =
-    subst (λ (u : Seg). order (vector_of s.a) (vector_of u.b) ≡ Plus) (same_get ends (left + 1) d s more) (c.follow.ensures.enters c.if-follow.true d) in
-    let gone = has_left segs ends aside c.requires.rise next left c.loop-left.status changed.between c.loop-left.invariant.1 t changed.left (same_get ends left d t some) some
+    subst (λ (u : Seg). order (vector_of s.a) (vector_of u.b) ≡ Plus) (get_or_default ends (left + 1) d s more) (c.follow.ensures.enters c.if-follow.true d) in
+    let gone = has_left segs ends aside c.requires.rise next left c.loop-left.status changed.between c.loop-left.invariant.1 t changed.left (get_or_default ends left d t some) some
     (λ i e h l. subst (λ (u : Seg). IsNotBefore u.b (get_or segs i e).a) c.index-ends-left.is (c.next_enters.ensures.leaves c.if-next_enters.false i e h l)) in (
       omega arith,
-      has_entered segs ends aside c.requires.rising c.requires.rise next (left + 1) changed.between c.follow.new.status gone s changed.entered (same_get segs next d s inside) inside more first
+      has_entered segs ends aside c.requires.rising c.requires.rise next (left + 1) changed.between c.follow.new.status gone s changed.entered (get_or_default segs next d s inside) inside more first
           (λ x i. from-contains ends x (Contains-permutation segs ends x c.requires.moved (to-contains segs x i))),
     )
 
@@ -65,7 +65,7 @@ pub loop-left-preserved-then-leave : goal.loop-left-preserved-then-leave
 loop-left-preserved-then-leave c =
     let segs = c.args.segs.now in let ends = c.args.ends.now in let aside = c.loop-left.aside.items in let next = c.loop-left.next in let left = c.loop-left.left in let t = c.index-ends-left-else-follow.result in
     let some : left < length ends = omega arith in
-    let same : c.index-ends-left.result ≡ t = c.index-ends-left.is ∙ same_get ends left c.index-ends-left.result t some ∙ sym c.index-ends-left-else-follow.is in
+    let same : c.index-ends-left.result ≡ t = c.index-ends-left.is ∙ get_or_default ends left c.index-ends-left.result t some ∙ sym c.index-ends-left-else-follow.is in
     let swept = subst (IsSwept segs ends aside next left) (sym (c.follow.ensures.kept c.if-follow.false)) c.loop-left.invariant.1 in (
       c.loop-left.invariant.0,
       has_left segs ends aside c.requires.rise next left c.follow.new.status c.leave.new.status swept t (c.leave.ensures.left c.if-leave.true) c.index-ends-left-else-follow.is some
@@ -76,7 +76,7 @@ pub loop-left-preserved-then-contains : goal.loop-left-preserved-then-contains
 loop-left-preserved-then-contains c =
     let segs = c.args.segs.now in let ends = c.args.ends.now in let aside = c.loop-left.aside.items in let next = c.loop-left.next in let left = c.loop-left.left in let t = c.index-ends-left-else-leave.result in
     let some : left < length ends = omega arith in
-    let same : c.index-ends-left.result ≡ t = c.index-ends-left.is ∙ same_get ends left c.index-ends-left.result t some ∙ sym c.index-ends-left-else-leave.is in
+    let same : c.index-ends-left.result ≡ t = c.index-ends-left.is ∙ get_or_default ends left c.index-ends-left.result t some ∙ sym c.index-ends-left-else-leave.is in
     let kept : c.leave.new.status ≡ c.loop-left.status = c.leave.ensures.kept c.if-leave.false ∙ c.follow.ensures.kept c.if-follow.false in
     let swept = subst (IsSwept segs ends aside next left) (sym kept) c.loop-left.invariant.1 in
     let among : Contains c.deref.result.now t = Contains-from_any (λ x y e. sym (seg_by_tests y x e)) t c.deref.result.now (sym c.contains.ensures.value ∙ c.if-contains.true) in (

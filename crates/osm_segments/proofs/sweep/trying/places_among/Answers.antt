@@ -1,9 +1,9 @@
 use Rattle.std.proofs.Common.{Contains, ap, arith, false, get_or, length, subst, sym, true, ⊎_elim, ◌++◌, ◌<◌, ◌∙◌, ◌∷◌, [], ◌≡◌, ◌≢◌}
+use Rattle.std.proofs.lemmas.List.{get_or_default}
 use Rattle.std.specs.List.{list_any}
 use Rattle.std.specs.Ordering.{is_eq}
 use Rattle.std.proofs.lemmas.Bool.{cases_eq}
 use Rattle.std.proofs.lemmas.List.Elements.{Contains-append_left}
-use Rattle.lists.proofs.ListsKit.{same_get}
 use Rattle.osm_lattice.specs.Seg.{seg_cmp}
 use Rattle.osm_segments.proofs.FoundPairs.{any_there}
 use Rattle.osm_segments.proofs.SettledPairs.{last_in}
@@ -27,7 +27,7 @@ loop-i-preserved c k d l there =
           subst (λ xs. Contains xs k) (sym same)
           (⊎_elim
           (λ (e : k ≡ i).
-          let at : get_or segs k d ≡ s = ap (λ m. get_or segs m d) e ∙ same_get segs i d s inside ∙ sym c.index-segs-i.is in
+          let at : get_or segs k d ≡ s = ap (λ m. get_or segs m d) e ∙ get_or_default segs i d s inside ∙ sym c.index-segs-i.is in
           let any : list_any (λ other. is_eq (seg_cmp other s)) aside ≡ true = any_there s aside (subst (Contains aside) at there) in
           let none : c.is_among.result ≡ false = w.if-is_among.false in
           let told = c.is_among.ensures in absurd (cc (sym any ∙ sym told ∙ none)))

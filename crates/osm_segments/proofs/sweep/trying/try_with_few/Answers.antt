@@ -1,5 +1,5 @@
 use Rattle.std.proofs.Common.{Contains, ap, arith, get_or, length, subst, sym, take, ⊎_elim, ◌<◌, ◌≡◌}
-use Rattle.lists.proofs.ListsKit.{same_get}
+use Rattle.std.proofs.lemmas.List.{get_or_default}
 use Rattle.osm_segments.specs.Ranges.{IsGrown, IsTried}
 use Rattle.osm_segments.proofs.SettledPairs.{all_taken, grown_more, one_more_in, tried_still}
 use Rattle.osm_segments.proofs.sweep.trying.try_with_few.Goals as goal
@@ -17,7 +17,7 @@ loop-i-preserved c =
                 (⊎_elim
                 (λ (k : Contains (take at few) i). tried_still segs old new i j grown.kept (c.loop-i.invariant.1 i j k a l))
                 (λ (e : x ≡ i). subst (λ k. IsTried segs new k j) e (w.in_ok-try_part.ensures.tried j a l))
-                (one_more_in few at x inside (same_get few at 0 x inside) i m)),
+                (one_more_in few at x inside (get_or_default few at 0 x inside) i m)),
           )
       | else-not-is_beside w ↦
           let same = sym (ap (λ v. v.items) w.told-is) in (
@@ -26,7 +26,7 @@ loop-i-preserved c =
                 (⊎_elim
                 (λ (k : Contains (take at few) i). c.loop-i.invariant.1 i j k a l)
                 (λ (e : x ≡ i). subst (λ k. IsTried segs old k j) e (c.is_beside.ensures w.if-not-is_beside.false old j a l))
-                (one_more_in few at x inside (same_get few at 0 x inside) i m)),
+                (one_more_in few at x inside (get_or_default few at 0 x inside) i m)),
           )
     ]
 
