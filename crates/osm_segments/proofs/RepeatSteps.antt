@@ -6,11 +6,11 @@ use Rattle.std.specs.Ordering.{is_eq, is_lt, ordering_reverse}
 use Rattle.std.specs.List.Sorted.{IsSorted}
 use Rattle.std.proofs.lemmas.Bool.{cases_Bool}
 use Rattle.std.proofs.lemmas.Cmp.{tied_itself}
-use Rattle.std.proofs.lemmas.List.{get_or-take, get_or_default, length-take}
+use Rattle.std.proofs.lemmas.List.{get_or-map, get_or-take, get_or_default, length-map, length-take}
 use Rattle.std.proofs.lemmas.List.Sorted.{ranks_by, sorted_far}
 use Rattle.std.proofs.lemmas.List.Sums.{sum_by_push, sum_by-le}
 use Rattle.lists.specs.Rising.{count_of}
-use Rattle.lists.proofs.ListsKit.{equal_from, first_member, later_member, taken_more}
+use Rattle.lists.proofs.ListsKit.{equal_from, taken_more}
 use Rattle.osm_lattice.specs.declared.seg.Seg.{Seg}
 use Rattle.osm_lattice.specs.Seg.{seg_cmp}
 use Rattle.osm_lattice.proofs.LatticeKit.{seg_same, seg_total}
@@ -108,9 +108,7 @@ once_again (suc zero) h = absurd (h refl)
 once_again (suc (suc n)) h = all_copies n
 
 repeat_there : (rs : List Repeat) (k : ℕ) (d : Repeat) → k < length rs → Contains (segs_of rs) (get_or rs k d).seg
-repeat_there [] k d h = absurd (omega arith)
-repeat_there (r ∷ rs) zero d h = first_member r.seg (segs_of rs)
-repeat_there (r ∷ rs) (suc k) d h = later_member r.seg (get_or rs k d).seg (segs_of rs) (repeat_there rs k d (omega arith))
+repeat_there rs k d h = (k, omega (arith, h, length-map rs (λ (r : Repeat). r.seg)), get_or-map (λ (r : Repeat). r.seg) rs k d (get_or rs k d).seg h)
 
 pub repeats_from_copies : (xs copies : List Seg) (rs : List Repeat) → ((s : Seg) → count_of seg_cmp s copies ≡ count_of seg_cmp s xs - 1 + min 1 (count_of seg_cmp s xs - 1)) → AreRepeats copies rs → AreRepeats xs rs
 repeats_from_copies xs copies rs counts are = record {
