@@ -21,6 +21,7 @@ mod ShorterLines
 mod SideNodes
 mod SidedSegments
 mod SomeMember
+mod SoughtSteps
 mod StepOrders
 mod WaterLaws
 mod OneChoice

@@ -33,3 +33,7 @@ step_cmp = then_cmp (on (λ s. s.from) loc_cmp) (on (λ s. s.to) loc_cmp)
 -- an edge runs along a step
 abbrev pub runs_along : Step → Edge → Bool
 runs_along step = runs_between step.from step.to
+
+-- a step is one of these
+abbrev pub is_one_of : List Step → Step → Bool
+is_one_of steps step = list_any (λ other. is_eq (step_cmp other step)) steps

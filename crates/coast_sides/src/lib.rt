@@ -18,6 +18,7 @@ mod shortcuts;
 mod side_nodes;
 mod sorted;
 mod sorting;
+mod sought;
 mod steps_along;
 mod stretches;
 mod water_laws;

@@ -2,15 +2,15 @@
 
 ghost use Rattle.std.specs.Prelude.{◌≡◌, ◌++◌, ◌∷◌, ◌||◌, [], if◌then◌else◌, IfOk, OnOk, filter, map};
 ghost use Rattle.std.specs.List.{list_any};
-ghost use Rattle.std.specs.BTreeSet.{contains};
+ghost use Rattle.std.specs.List.Sorted.{IsSorted};
 ghost use Rattle.coast_sides.specs.Segments.{steps_round};
-ghost use Rattle.coast_sides.specs.WrongWays.{runs_against, runs_along, step_cmp};
+ghost use Rattle.coast_sides.specs.WrongWays.{is_one_of, runs_against, runs_along, step_cmp};
 
 use crate::ring_segments::next_round;
+use crate::sought::sought_near;
 use coast_join::CoastRing;
 use osm_geom::{Edge, Ids, Loc, Point};
 use std::alloc::{AllocError as OutOfMemory, Global};
-use std::collections::BTreeSet;
 
 /// A step from one location to another.
 #[derive(Clone, Copy, Debug, PartialEq, Eq, PartialOrd, Ord)]
@@ -20,31 +20,43 @@ pub struct Step {
 }
 
 /// Adds the step along an edge.
-fn add_edge(steps: &mut BTreeSet<Step>, edge: &Edge) -> Result<(), OutOfMemory>
-    ensures { OnOk result ((s : Step) → contains step_cmp steps.new s
-        ≡ (contains step_cmp steps.old s || runs_along s edge.now)) }
+fn add_edge(steps: &mut Vec<Step>, edge: &Edge) -> Result<(), OutOfMemory>
+    ensures { OnOk result ((s : Step) → is_one_of steps.new.items s
+        ≡ (is_one_of steps.old.items s || runs_along s edge.now)) }
 {
     if let (Point::Lattice(from), Point::Lattice(to)) = (edge.from, edge.to) {
-        steps.insert(Step { from, to })?;
+        steps.push(Step { from, to })?;
     }
     Ok(())
 }
 
-/// The steps along edges.
-fn steps_along(alloc: Global, edges: &[Edge]) -> Result<BTreeSet<Step>, OutOfMemory>
-    ensures { IfOk result (λ steps. (s : Step) → contains step_cmp steps s
+/// The steps along edges, one edge after the other.
+fn steps_by_edges(alloc: Global, edges: &[Edge]) -> Result<Vec<Step>, OutOfMemory>
+    ensures { IfOk result (λ v. (s : Step) → is_one_of v.items s
         ≡ list_any (runs_along s) edges.now) }
 {
-    let mut steps = BTreeSet::new(alloc);
+    let mut steps = Vec::with_capacity(alloc, edges.len())?;
     for edge in edges {
         add_edge(&mut steps, edge)?;
     }
     Ok(steps)
 }
 
-/// Whether a step of a closed line runs against one of these.
-fn meets(steps: &BTreeSet<Step>, path: &[Loc]) -> bool
-    ensures { result ≡ list_any (λ step. contains step_cmp steps.now
+/// The steps along edges, in order.
+fn steps_along(alloc: Global, edges: &[Edge]) -> Result<Vec<Step>, OutOfMemory>
+    ensures order { IfOk result (λ v. IsSorted step_cmp v.items) }
+    ensures steps { IfOk result (λ v. (s : Step) → is_one_of v.items s
+        ≡ list_any (runs_along s) edges.now) }
+{
+    let mut steps = steps_by_edges(alloc, edges)?;
+    steps.sort_unstable();
+    Ok(steps)
+}
+
+/// Whether a step of a closed line runs against one of these, which are in order. The searches begin near a place and leave another.
+fn meets(steps: &[Step], near: &mut usize, path: &[Loc]) -> bool
+    requires { IsSorted step_cmp steps.now }
+    ensures { result ≡ list_any (λ step. is_one_of steps.now
         (record { from = step.1; to = step.0 })) (steps_round path.now) }
 {
     for place in 0..path.len() {
@@ -52,7 +64,9 @@ fn meets(steps: &BTreeSet<Step>, path: &[Loc]) -> bool
             from: path[next_round(place, path.len())],
             to: path[place],
         };
-        if steps.contains(&back) {
+        let sought = sought_near(steps, *near, back);
+        *near = sought.place;
+        if sought.is_there {
             return true;
         }
     }
@@ -81,8 +95,13 @@ pub(crate) fn wrong_ways(
 {
     let steps = steps_along(alloc, edges)?;
     let mut names = Ids::new(alloc);
+    let mut near = 0;
     for ring in rings {
-        add_name(&mut names, ring, meets(&steps, ring.path.as_slice()))?;
+        add_name(
+            &mut names,
+            ring,
+            meets(&steps, &mut near, ring.path.as_slice()),
+        )?;
     }
     Ok(names)
 }
