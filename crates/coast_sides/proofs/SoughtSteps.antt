@@ -11,6 +11,7 @@ use Rattle.std.proofs.lemmas.List.Sorted.{ranks_by, searchable_from_sorted, sort
 use Rattle.coast_sides.specs.declared.wrong_ways.Step.{Step}
 use Rattle.coast_sides.specs.WrongWays.{is_one_of, step_cmp}
 use Rattle.osm_lattice.specs.Loc.{loc_cmp}
+use Rattle.lists.proofs.ListsKit.{less_from}
 use Rattle.coast_sides.proofs.ListSteps.{or_false}
 use Rattle.coast_sides.proofs.EvenRings.{loc_cmp_total}
 
@@ -19,11 +20,6 @@ step_total = then_total (on_total (λ (s : Step). s.from) loc_cmp_total) (on_tot
 
 ranked : IsStrictWeakOrder (λ x y. is_lt (step_cmp x y))
 ranked = ranks_by step_total (λ (s : Step). s)
-
-less_is : (o : Ordering) → is_lt o ≡ true → o ≡ Less
-less_is Less e = refl
-less_is Equal e = absurd (cc e)
-less_is Greater e = absurd (cc e)
 
 equal_both : (o r : Ordering) → is_eq (ordering_then o r) ≡ (is_eq o && is_eq r)
 equal_both Less r = refl
@@ -90,7 +86,7 @@ module _ (steps : List Step) (order : IsSorted step_cmp steps) (step : Step) whe
   above_all from within last at less k d h = by (is_lt (step_cmp (get_or steps k d) step)) refl
     where
       by : (b : Bool) → is_lt (step_cmp (get_or steps k d) step) ≡ b → step_cmp (get_or steps k d) step ≡ Less
-      by true e = less_is (step_cmp (get_or steps k d) step) e
+      by true e = less_from (step_cmp (get_or steps k d) step) e
       by false e =
           let same : get_or steps (from - 1) d ≡ last = get_or_default steps (from - 1) d last (omega arith) ∙ sym at in
           let before : is_lt (step_cmp last (get_or steps k d)) ≡ false = ap (λ (s : Step). is_lt (step_cmp s (get_or steps k d))) (sym same) ∙ far k (from - 1) d (omega arith) (omega arith) in
@@ -100,7 +96,7 @@ module _ (steps : List Step) (order : IsSorted step_cmp steps) (step : Step) whe
   below_all to within next at less k d h l = by (is_lt (step_cmp step (get_or steps k d))) refl
     where
       by : (b : Bool) → is_lt (step_cmp step (get_or steps k d)) ≡ b → step_cmp (get_or steps k d) step ≡ Greater
-      by true e = step_total.antisymm (get_or steps k d) step ∙ ap ordering_reverse (less_is (step_cmp step (get_or steps k d)) e)
+      by true e = step_total.antisymm (get_or steps k d) step ∙ ap ordering_reverse (less_from (step_cmp step (get_or steps k d)) e)
       by false e =
           let same : get_or steps to d ≡ next = get_or_default steps to d next within ∙ sym at in
           let after : is_lt (step_cmp (get_or steps k d) next) ≡ false = ap (λ (s : Step). is_lt (step_cmp (get_or steps k d) s)) (sym same) ∙ far to k d h l in
