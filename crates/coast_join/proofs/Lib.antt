@@ -13,6 +13,7 @@ pub mod Stepping
 mod NearestSites
 mod SiteStretches
 mod MutualPairs
+mod LocatedRefs
 mod MatchedPairs
 mod NameOrder
 mod Parts

@@ -61,14 +61,6 @@ fn located(alloc: Global, store: &Store, refs: &Refs) -> Result<Vec<Loc>, OutOfM
     Ok(locs)
 }
 
-/// The locations of references, equal neighbours taken once.
-fn line_along(alloc: Global, store: &Store, refs: &Refs) -> Result<Path, OutOfMemory>
-    ensures { IfOk result (λ path. path ≡ line_along store.now refs.now) }
-{
-    let locs = located(alloc, store, refs)?;
-    once_path(alloc, locs)
-}
-
 /// Adds a missing node of each of these ids.
 fn add_missing(asides: &mut Asides, way: i64, nodes: &[i64]) -> Result<(), OutOfMemory>
     ensures { OnOk result (asides.new ≡ asides.old ++ map (Missing way) nodes.now) }
@@ -114,12 +106,13 @@ fn add_way(
         ++ asides_by way (missing_node_ids store.now refs.now) (line_along store.now refs.now)) }
 {
     orders_are_exact();
-    let missing = missing_node_ids(alloc, store, refs)?;
-    if !missing.is_empty() {
+    let locs = located(alloc, store, refs)?;
+    // Missing nodes are looked up only if there are any.
+    if locs.len() < refs.len() {
+        let missing = missing_node_ids(alloc, store, refs)?;
         return add_missing(asides, way, &missing);
     }
-    let path = line_along(alloc, store, refs)?;
-    add_line(ways, asides, way, path)
+    add_line(ways, asides, way, once_path(locs))
 }
 
 /// Adds the way of this id.

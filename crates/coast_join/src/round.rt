@@ -48,11 +48,10 @@ fn opened(locs: &[Loc]) -> &[Loc]
 }
 
 /// The line of locations with equal neighbours taken once.
-pub(crate) fn once_path(alloc: Global, locs: Vec<Loc>) -> Result<Path, OutOfMemory>
-    ensures { IfOk result (λ path. path ≡ once locs.items) }
+pub(crate) fn once_path(locs: Vec<Loc>) -> Path
+    ensures { result ≡ once locs.items }
 {
-    let line = once(locs);
-    path_of(alloc, &line)
+    Path::from_vec(once(locs))
 }
 
 /// The closed line of locations with equal neighbours taken once, the last and the first included. Where at least two are left, it doesn't

@@ -1,5 +1,5 @@
 -- Segments that are blocked: those that conflict with a segment of a kept ring.
-use Rattle.std.proofs.Common.{◌≡◌, ℕ, ◌+◌, ◌<◌, Bool, true, false, not, ◌&&◌, ◌||◌, if◌then◌else◌, List, [], ◌∷◌, ◌++◌, All, Contains, length, take, get_or, refl, sym, ap, subst, ◌∙◌, arith, ⊎_elim}
+use Rattle.std.proofs.Common.{◌≡◌, ℕ, ◌+◌, ◌<◌, Bool, true, false, not, ◌&&◌, ◌||◌, if◌then◌else◌, List, [], ◌∷◌, ◌++◌, Contains, length, take, get_or, refl, sym, ap, subst, ◌∙◌, ⊎_elim}
 use Rattle.std.specs.Prelude.{is_some}
 use Rattle.std.specs.List.{list_any}
 use Rattle.std.proofs.lemmas.Bool.{and_parts, false≢true, or_cases, or_left}
@@ -15,7 +15,7 @@ use Rattle.osm_segments.specs.Pairs.{conflicts_of}
 use Rattle.coast_sides.specs.Sorting.{AreConflicts, conflicts_with}
 use Rattle.coast_sides.proofs.Conflicts.{is_eq_same, once_stands, pair_made, pair_passes, pair_stands}
 use Rattle.coast_sides.proofs.ListSteps.{taken_more}
-use Rattle.coast_sides.proofs.SomeMember.{any_from, same_truth, some_passes}
+use Rattle.coast_sides.proofs.SomeMember.{any_from, some_passes}
 
 module _ (exact : SegmentOrderTellsApart) (symmetric : ConflictIsSymmetric) where
   -- ---- one more segment of a kept ring

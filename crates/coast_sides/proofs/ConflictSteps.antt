@@ -1,10 +1,9 @@
 -- What steps in conflict cut out, told by the pairs of their segments.
-use Rattle.std.proofs.Common.{◌≡◌, ◌⊎◌, inl, inr, ⊎_elim, ℕ, ◌+◌, ◌<◌, ◌&&◌, ◌||◌, Bool, true, false, Contains, IsPermutation, List, Option, Some, None, length, option_map, refl, sym, ap, subst, ◌∙◌, arith}
+use Rattle.std.proofs.Common.{◌≡◌, ◌⊎◌, inl, inr, ⊎_elim, ℕ, ◌&&◌, true, Contains, List, Option, Some, None, length, option_map, refl, sym, ap, ◌∙◌, arith}
 use Rattle.std.specs.Prelude.{is_some, nat_lt}
-use Rattle.std.specs.List.{enumerate_from, filter_map, list_any}
+use Rattle.std.specs.List.{enumerate_from, list_any}
 use Rattle.std.specs.Ordering.{is_eq}
 use Rattle.std.proofs.lemmas.Bool.{and_from, and_parts, false≢true, or_cases, or_left, or_right}
-use Rattle.std.proofs.lemmas.List.{get_or_default}
 use Rattle.std.proofs.lemmas.List.FromFn.{get_or-enumerate_from, length-enumerate_from}
 use Rattle.std.proofs.lemmas.List.Sorted.{Contains-permutation, IsPermutation-sym}
 use Rattle.osm_lattice.specs.Conflict.{conflict_of}
@@ -20,7 +19,7 @@ use Rattle.coast_sides.specs.Segments.{segments_round, steps_round}
 use Rattle.coast_sides.specs.Shortcuts.{cuts_out, do_conflict, is_among_fewer, is_cut_out, steps_conflict}
 use Rattle.coast_sides.specs.ShortcutSteps.{AreStepsAlong, lies_between, pair_cuts_out, run_along_pair, step_along, steps_along}
 use Rattle.coast_sides.specs.declared.steps_along.StepAlong.{StepAlong}
-use Rattle.coast_sides.proofs.Conflicts.{PairOf, is_eq_same, once_stands, pair_made, pair_stands, tied}
+use Rattle.coast_sides.proofs.Conflicts.{is_eq_same, once_stands, pair_made, pair_stands, tied}
 use Rattle.coast_sides.proofs.SomeMember.{Gives, any_from, filter_map_from, filter_map_has, same_truth, some_passes}
 
 -- ---- steps and their segments

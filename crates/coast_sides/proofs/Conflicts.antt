@@ -1,5 +1,5 @@
 -- The segments of conflicting pairs are those that conflict with some segment.
-use Rattle.std.proofs.Common.{◌≡◌, ◌⊎◌, inl, inr, ℕ, ◌<◌, ⊎_elim, Bool, true, false, not, ◌&&◌, ◌||◌, min, List, [], ◌∷◌, ◌++◌, filter, Option, Some, None, option_map, Contains, refl, sym, ap, ◌∙◌, subst, arith, zero, suc}
+use Rattle.std.proofs.Common.{◌≡◌, ◌⊎◌, inl, inr, ℕ, ◌<◌, ⊎_elim, Bool, true, false, not, ◌&&◌, min, List, [], ◌∷◌, ◌++◌, filter, Option, Some, None, option_map, Contains, refl, sym, ap, ◌∙◌, subst, arith, zero, suc}
 use Rattle.std.specs.Prelude.{is_some}
 use Rattle.std.specs.List.{filter_map, list_any}
 use Rattle.std.specs.Ordering.{is_eq}
@@ -10,7 +10,9 @@ use Rattle.osm_lattice.specs.declared.conflicts.Kind.{Kind}
 use Rattle.osm_lattice.specs.declared.seg.Seg.{Seg}
 use Rattle.osm_lattice.specs.Conflict.{conflict_of}
 use Rattle.osm_lattice.specs.ConflictLaws.{ConflictIsSymmetric}
-use Rattle.osm_lattice.specs.OrderLaws.{SegmentOrderTellsApart}
+use Rattle.osm_lattice.specs.Loc.{loc_cmp}
+use Rattle.osm_lattice.specs.OrderLaws.{LocationOrderTellsApart, SegmentOrderTellsApart}
+use Rattle.osm_lattice.specs.declared.loc.Loc.{Loc}
 use Rattle.osm_lattice.specs.Seg.{seg_cmp}
 use Rattle.lists.specs.Rising.{count_of}
 use Rattle.lists.proofs.ListsKit.{equal_from, first_member, later_member, member_cases, no_member, not-true-out, or-out}
@@ -67,6 +69,9 @@ unlike_itself s e = let none : conflict_of s s ≡ None = rw (tied s) refl in fa
 
 pub is_eq_same : SegmentOrderTellsApart → (s t : Seg) → is_eq (seg_cmp s t) ≡ true → s ≡ t
 is_eq_same exact s t e = (exact s t).0 (equal_from (seg_cmp s t) e)
+
+pub is_eq_there : LocationOrderTellsApart → (p q : Loc) → is_eq (loc_cmp p q) ≡ true → p ≡ q
+is_eq_there exact p q e = (exact p q).0 (equal_from (loc_cmp p q) e)
 
 -- ---- the pairs among segments
 

@@ -20,7 +20,6 @@ use Rattle.coast_join.specs.declared.ring.CoastRing.{CoastRing}
 use Rattle.coast_sides.specs.CutSteps.{AreCrossed, IsCutLine, IsCutRing, IsFoundBy, IsLeftBehind, IsShortened}
 use Rattle.coast_sides.specs.Rounds.{AreCutDown, AreRounds, conflicts_itself, round_cuts}
 use Rattle.coast_sides.specs.Segments.{all_segments, segments_round}
-use Rattle.coast_sides.specs.Shortcuts.{shortened}
 use Rattle.coast_sides.specs.Sorting.{conflicts_with, is_in_pair}
 use Rattle.coast_sides.specs.declared.cut.Cut.{Cut}
 use Rattle.coast_sides.proofs.Conflicts.{from_once, in_pairs, pair_stands}

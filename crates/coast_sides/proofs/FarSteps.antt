@@ -1,8 +1,7 @@
 -- Of n locations round: what lies between two steps, and the farthest step on either side.
-use Rattle.std.proofs.Common.{◌≡◌, ◌⊎◌, inl, inr, ⊎_elim, ℕ, ◌+◌, ◌-◌, ◌*◌, ◌/◌, ◌<◌, ◌≤◌, ◌&&◌, ◌||◌, Bool, true, false, if◌then◌else◌, All, Contains, List, refl, sym, ap, ◌∙◌, arith}
+use Rattle.std.proofs.Common.{◌≡◌, ◌⊎◌, inl, inr, ⊎_elim, ℕ, ◌+◌, ◌-◌, ◌*◌, ◌/◌, ◌<◌, ◌≤◌, ◌&&◌, ◌||◌, Bool, true, false, if◌then◌else◌, Contains, List, refl, sym, ◌∙◌, arith}
 use Rattle.std.specs.Prelude.{nat_le, nat_lt}
 use Rattle.std.proofs.lemmas.Bool.{and_from, and_parts, cases_lt, cond-false, cond-true, le-leb, le-ltb, leb-false, leb-true, lt-leb, lt-ltb, ltb-true, or_cases, or_left, or_right}
-use Rattle.std.proofs.lemmas.List.Elements.{All-contains}
 use Rattle.coast_sides.specs.declared.steps_along.StepAlong.{StepAlong}
 use Rattle.coast_sides.specs.Shortcuts.{is_among_fewer}
 use Rattle.coast_sides.specs.ShortcutSteps.{IsFarthest, IsFirstPlaceFrom, IsLastPlaceUpTo, IsShorter, ahead, is_on_stretch, lies_between, place_before}

@@ -22,7 +22,9 @@ mod SideNodes
 mod SidedSegments
 mod SomeMember
 mod SoughtSteps
+mod StandingSteps
 mod StepOrders
+mod TakenAway
 mod WaterLaws
 mod OneChoice
 mod RingRanks

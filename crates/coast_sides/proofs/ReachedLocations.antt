@@ -1,5 +1,5 @@
 -- Which locations are reached behind steps, and what a walk along them carries on.
-use Rattle.std.proofs.Common.{◌≡◌, ◌⊎◌, inl, inr, ⊎_elim, ℕ, ◌+◌, ◌-◌, ◌<◌, ◌≤◌, ◌&&◌, ◌||◌, Bool, true, false, max, All, Contains, List, length, get_or, set, refl, sym, ap, subst, ◌∙◌, arith}
+use Rattle.std.proofs.Common.{◌≡◌, ◌⊎◌, inl, inr, ⊎_elim, ℕ, ◌+◌, ◌-◌, ◌<◌, ◌≤◌, ◌&&◌, ◌||◌, true, max, All, Contains, List, length, get_or, set, refl, sym, ap, subst, ◌∙◌, arith}
 use Rattle.std.specs.Prelude.{nat_lt}
 use Rattle.std.specs.List.{enumerate_from, list_any}
 use Rattle.std.specs.Ordering.{is_eq}
@@ -16,7 +16,7 @@ use Rattle.osm_lattice.specs.Seg.{seg_cmp}
 use Rattle.osm_lattice.specs.declared.seg.Seg.{Seg}
 use Rattle.osm_segments.specs.declared.pairs.Pair.{Pair}
 use Rattle.coast_sides.proofs.Conflicts.{is_eq_same, tied}
-use Rattle.coast_sides.proofs.FarSteps.{Beside, IsFarthestAhead, IsFarthestBehind, LiesAhead, LiesWithin, ahead_found, ahead_reached, behind_found, behind_reached, between_in, between_out, wider, within_in, within_out}
+use Rattle.coast_sides.proofs.FarSteps.{Beside, LiesAhead, LiesWithin, ahead_found, ahead_reached, behind_found, behind_reached, between_in, between_out, wider, within_in, within_out}
 use Rattle.coast_sides.proofs.SomeMember.{any_from, same_truth, some_passes}
 
 -- ---- reached locations

@@ -1,5 +1,5 @@
 -- The steps of a closed line, one after the other.
-use Rattle.std.proofs.Common.{◌≡◌, ℕ, zero, suc, ◌+◌, ◌-◌, ◌<◌, ◌≤◌, ◌||◌, Bool, true, false, nat_lt, if◌then◌else◌, List, [], ◌∷◌, ◌++◌, length, drop, take, get_or, Some, Option, refl, sym, ap, ◌∙◌, arith, ⊎_elim}
+use Rattle.std.proofs.Common.{◌≡◌, ℕ, zero, suc, ◌+◌, ◌-◌, ◌<◌, ◌≤◌, ◌||◌, Bool, true, false, nat_lt, if◌then◌else◌, List, [], ◌∷◌, ◌++◌, length, drop, take, get_or, None, Some, Option, refl, sym, ap, ◌∙◌, arith, ⊎_elim}
 use Rattle.std.specs.List.{filter_map, list_any, slice_get, zip}
 use Rattle.std.specs.Option.{option_to_list}
 use Rattle.std.proofs.lemmas.Bool.{cases_lt}
@@ -13,7 +13,7 @@ use Rattle.osm_lattice.specs.declared.seg.Seg.{Seg}
 use Rattle.osm_lattice.specs.Seg.{segment_between}
 use Rattle.coast_sides.specs.Segments.{segments_round, steps_round}
 use Rattle.coast_sides.specs.Water.{pieces}
-use Rattle.coast_sides.proofs.ListSteps.{given_step}
+use Rattle.coast_sides.proofs.ListSteps.{given_step, or_false}
 
 zip_get : (xs ys : List Loc) (i : ℕ) (p q : Loc) → slice_get xs i ≡ Some p → slice_get ys i ≡ Some q → slice_get (zip xs ys) i ≡ Some (p, q)
 zip_get [] ys i p q e d = absurd (cc)
@@ -101,6 +101,26 @@ pub tested_all : (f : Loc × Loc → Bool) (path : List Loc) (i : ℕ) → lengt
 tested_all f path i h none =
     let short = zip_short path (drop 1 path ++ take 1 path) in
     ap (list_any f) (sym (take_all i (steps_round path) (omega arith))) ∙ none
+
+-- the segment of a step passes, if it has one
+abbrev pub passes_by : (Seg → Bool) → Loc × Loc → Bool
+passes_by p step = list_any p (option_to_list (segment_between step.0 step.1))
+
+any_given : (p : Seg → Bool) (steps : List (Loc × Loc)) → list_any p (filter_map (λ (step : Loc × Loc). segment_between step.0 step.1) steps) ≡ list_any (passes_by p) steps
+any_given p [] = refl
+any_given p (step ∷ steps) = by (any_given p steps) (segment_between step.0 step.1) refl
+  where
+    rest : List Seg
+    rest = filter_map (λ (s : Loc × Loc). segment_between s.0 s.1) steps
+
+    by : list_any p rest ≡ list_any (passes_by p) steps → (o : Option Seg) → segment_between step.0 step.1 ≡ o →
+        list_any p (filter_map (λ (s : Loc × Loc). segment_between s.0 s.1) (step ∷ steps)) ≡ list_any (passes_by p) (step ∷ steps)
+    by more None e = rw e more
+    by more (Some seg) e = rw e (ap (λ b. p seg || b) more ∙ ap (λ b. b || list_any (passes_by p) steps) (sym (or_false (p seg))))
+
+-- some segment of a closed line passes exactly if that of a step does
+pub passes_along : (p : Seg → Bool) (path : List Loc) → list_any p (segments_round path) ≡ list_any (passes_by p) (steps_round path)
+passes_along p path = any_given p (steps_round path)
 
 -- ---- the pieces of a side, one after the other
 

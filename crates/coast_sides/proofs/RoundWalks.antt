@@ -1,5 +1,5 @@
 -- Walks round a closed line: its steps along segments, what is reached behind them, and its locations, marked.
-use Rattle.std.proofs.Common.{◌≡◌, ◌⊎◌, inl, inr, ℕ, zero, suc, ◌+◌, ◌<◌, ◌≤◌, ◌||◌, Bool, true, false, All, Contains, List, [], ◌∷◌, ◌++◌, Option, Some, None, drop, length, get_or, map, option_map, replicate, take, refl, sym, ap, ◌∙◌, arith}
+use Rattle.std.proofs.Common.{◌≡◌, inl, inr, ℕ, ◌+◌, ◌<◌, ◌≤◌, ◌||◌, Bool, false, All, Contains, List, [], ◌∷◌, ◌++◌, Some, drop, length, get_or, map, replicate, take, refl, sym, ap, ◌∙◌, arith}
 use Rattle.std.specs.Prelude.{nat_lt}
 use Rattle.std.specs.List.{enumerate_from, filter_map, list_any, slice_get}
 use Rattle.std.specs.Option.{option_to_list}

@@ -1,7 +1,7 @@
 -- Rounds: each makes a line that conflicts with itself shorter, and so they end.
-use Rattle.std.proofs.Common.{◌≡◌, ◌⊎◌, inl, inr, ⊎_elim, ℕ, zero, suc, ◌+◌, ◌-◌, ◌<◌, ◌≤◌, ◌&&◌, ◌||◌, Bool, true, false, if◌then◌else◌, cond, Contains, List, [], ◌∷◌, ◌++◌, Some, drop, get_or, length, map, option_map, take, refl, sym, ap, ◌∙◌, arith}
+use Rattle.std.proofs.Common.{◌≡◌, ◌⊎◌, ⊎_elim, ℕ, zero, suc, ◌+◌, ◌-◌, ◌<◌, ◌≤◌, ◌&&◌, ◌||◌, Bool, true, false, if◌then◌else◌, Contains, List, [], ◌∷◌, ◌++◌, Some, drop, get_or, length, option_map, take, refl, sym, ap, ◌∙◌, arith}
 use Rattle.std.specs.Prelude.{is_some, nat_le, nat_lt}
-use Rattle.std.specs.List.{enumerate_from, filter_map, list_any, slice_get}
+use Rattle.std.specs.List.{enumerate_from, list_any, slice_get}
 use Rattle.std.proofs.lemmas.Bool.{and_from, cases_order, false≢true, le-leb, lt-ltb, or_left}
 use Rattle.std.proofs.lemmas.List.{length-map}
 use Rattle.std.proofs.lemmas.List.FromFn.{length-enumerate_from}

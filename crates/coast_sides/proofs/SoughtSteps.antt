@@ -21,7 +21,7 @@ step_total = then_total (on_total (λ (s : Step). s.from) loc_cmp_total) (on_tot
 ranked : IsStrictWeakOrder (λ x y. is_lt (step_cmp x y))
 ranked = ranks_by step_total (λ (s : Step). s)
 
-equal_both : (o r : Ordering) → is_eq (ordering_then o r) ≡ (is_eq o && is_eq r)
+pub equal_both : (o r : Ordering) → is_eq (ordering_then o r) ≡ (is_eq o && is_eq r)
 equal_both Less r = refl
 equal_both Equal r = refl
 equal_both Greater r = refl

@@ -2,15 +2,15 @@
 
 ghost use Rattle.std.specs.Prelude.{◌≡◌, ◌||◌, IfOk, OnOk};
 ghost use Rattle.std.specs.List.{list_any};
+ghost use Rattle.std.specs.Option.{option_to_list};
 ghost use Rattle.std.specs.BTreeSet.{contains};
 ghost use Rattle.osm_lattice.specs.declared.seg.Seg.{Seg};
-ghost use Rattle.osm_lattice.specs.Seg.{seg_cmp};
+ghost use Rattle.osm_lattice.specs.Seg.{seg_cmp, segment_between};
 ghost use Rattle.coast_sides.specs.Segments.{segments_round};
 ghost use Rattle.coast_sides.specs.Sorting.{AreConflicts, is_in_pair};
 
-use crate::ring_segments::segments_round;
-use coast_join::CoastRing;
-use osm_geom::Seg;
+use crate::ring_segments::next_round;
+use osm_geom::{Loc, Seg};
 use osm_segments::{Pair, conflicts, distinct_of};
 use std::alloc::{AllocError as OutOfMemory, Global};
 use std::collections::BTreeSet;
@@ -52,15 +52,25 @@ pub(crate) fn any_among(segs: &BTreeSet<Seg>, some: &[Seg]) -> bool
     some.iter().any(|seg| segs.contains(seg))
 }
 
-/// Whether some segment of a ring is among these.
-pub(crate) fn runs_along(
-    alloc: Global,
-    segs: &BTreeSet<Seg>,
-    ring: &CoastRing,
-) -> Result<bool, OutOfMemory>
-    ensures { IfOk result (λ along. along
-        ≡ list_any (contains seg_cmp segs.now) (segments_round ring.now.path)) }
+/// Whether the segment between two locations is among these, if they have one.
+fn is_step_among(segs: &BTreeSet<Seg>, from: Loc, to: Loc) -> bool
+    ensures { result ≡ list_any (contains seg_cmp segs.now)
+        (option_to_list (segment_between from to)) }
 {
-    let round = segments_round(alloc, ring.path.as_slice())?;
-    Ok(any_among(segs, &round))
+    match Seg::new(from, to) {
+        Some(seg) => segs.contains(&seg),
+        None => false,
+    }
+}
+
+/// Whether some segment of a closed line is among these.
+pub(crate) fn runs_along(segs: &BTreeSet<Seg>, path: &[Loc]) -> bool
+    ensures { result ≡ list_any (contains seg_cmp segs.now) (segments_round path.now) }
+{
+    for place in 0..path.len() {
+        if is_step_among(segs, path[place], path[next_round(place, path.len())]) {
+            return true;
+        }
+    }
+    false
 }

@@ -4,7 +4,7 @@ ghost use Rattle.std.specs.Prelude.{◌≡◌, IfOk};
 ghost use Rattle.coast_sides.specs.CutSorting.{IsCutAndSorted, NamesOfRingsRise};
 ghost use Rattle.coast_sides.specs.Land.{HaveNoConflicts};
 ghost use Rattle.coast_sides.specs.Rounds.{AreCutDown};
-ghost use Rattle.coast_sides.specs.Segments.{all_segments};
+ghost use Rattle.coast_sides.specs.Segments.{AreRingSegments, all_segments};
 ghost use Rattle.coast_sides.specs.Sorting.{AreConflicts};
 
 use crate::choosing::chosen;
@@ -13,7 +13,7 @@ use crate::ring_segments::all_segments;
 use crate::rounds::{CutDown, cut_down};
 use crate::sorted::{Pairs, Sorted};
 use coast_join::CoastRing;
-use osm_geom::{conflicts_are_symmetric, orders_are_exact};
+use osm_geom::{Segs, conflicts_are_symmetric, orders_are_exact};
 use osm_segments::Pair;
 use std::alloc::{AllocError as OutOfMemory, Global};
 
@@ -32,21 +32,24 @@ fn cut_at_conflicts(alloc: Global, rings: &[CoastRing]) -> Result<(Vec<Pair>, Cu
 /// Rings sorted out, their crossings cut: shortcuts are cut into each ring until it doesn't conflict with itself. Of what is left
 /// the long rings are kept before the short ones: a ring is left out where a kept ring that outranks it conflicts with it.
 ///
-/// No two segments of kept rings conflict. The conflicts that are told are those of the rings before any cut. The error is want
-/// of memory.
-pub fn cut_and_sort_out(alloc: Global, rings: &[CoastRing]) -> Result<Sorted, OutOfMemory>
+/// No two segments of kept rings conflict. It also gives these, each as often as it occurs. The conflicts that are told are those
+/// of the rings before any cut. The error is want of memory.
+pub fn cut_and_sort_out(alloc: Global, rings: &[CoastRing]) -> Result<(Sorted, Segs), OutOfMemory>
     requires { NamesOfRingsRise rings.now }
-    ensures sorted { IfOk result (λ sorted. IsCutAndSorted rings.now sorted) }
-    ensures clear { IfOk result (λ sorted. HaveNoConflicts (all_segments sorted.kept)) }
+    ensures sorted { IfOk result (λ out. IsCutAndSorted rings.now out.0) }
+    ensures clear { IfOk result (λ out. HaveNoConflicts (all_segments out.0.kept)) }
+    ensures segments { IfOk result (λ out. AreRingSegments out.0.kept out.1) }
 {
     orders_are_exact();
     conflicts_are_symmetric();
     let (pairs, down) = cut_at_conflicts(alloc, rings)?;
     let (kept, left_out) = chosen(alloc, down.left.as_slice())?;
-    Ok(Sorted {
+    let segs = all_segments(alloc, kept.as_slice())?;
+    let sorted = Sorted {
         kept,
         left_out,
         pairs: Pairs::from_vec(pairs),
         cuts: down.cuts,
-    })
+    };
+    Ok((sorted, Segs::from_vec(segs)))
 }

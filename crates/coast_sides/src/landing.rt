@@ -9,26 +9,25 @@ ghost use Rattle.osm_segments.specs.Pairs.{conflicts_of};
 ghost use Rattle.osm_segments.specs.Repeats.{AreRepeats};
 ghost use Rattle.osm_segments.specs.Counts.{HasEvenNodes};
 ghost use Rattle.coast_join.specs.declared.ring.CoastRing.{CoastRing};
-ghost use Rattle.coast_sides.specs.Segments.{all_segments};
+ghost use Rattle.coast_sides.specs.Segments.{AreRingSegments, all_segments};
 ghost use Rattle.coast_sides.specs.Land.{HaveNoConflicts, IsLand};
 ghost use Rattle.coast_sides.specs.RingLand.{IsLandOf};
 
 use crate::land_parts::{Land, Repeats};
-use crate::ring_segments::{all_segments, closed_lines_are_even};
+use crate::ring_segments::closed_lines_are_even;
 use crate::wrong_ways::wrong_ways;
 use coast_join::CoastRing;
-use osm_geom::{Edges, Seg, orders_are_exact};
+use osm_geom::{Edges, Seg, Segs, orders_are_exact};
 use osm_segments::{Cancelled, Outline, cancel};
 use osm_sides::direct;
 use std::alloc::{AllocError as OutOfMemory, Global};
 
-/// What cancelling makes of the segments of rings.
-fn cancelled(alloc: Global, kept: &[CoastRing]) -> Result<Cancelled, OutOfMemory>
-    ensures survivors { IfOk result (λ c. AreSurvivors (all_segments kept.now) c.survivors.items) }
-    ensures repeats { IfOk result (λ c. AreRepeats (all_segments kept.now) c.repeats.items) }
+/// What cancelling makes of segments. They go.
+fn cancelled(alloc: Global, segs: Segs) -> Result<Cancelled, OutOfMemory>
+    ensures survivors { IfOk result (λ c. AreSurvivors segs c.survivors.items) }
+    ensures repeats { IfOk result (λ c. AreRepeats segs c.repeats.items) }
 {
-    let segs = all_segments(alloc, kept)?;
-    cancel(alloc, &segs)
+    cancel(alloc, segs.as_slice())
 }
 
 /// The edges of land: what is left of segments, directed so that land is on the left. Fails only if memory runs out.
@@ -47,14 +46,16 @@ fn land_edges(alloc: Global, left: Vec<Seg>) -> Result<Edges, OutOfMemory>
 /// Land of kept rings: what is left of their segments once pairs are cancelled, directed so that land is on the left.
 ///
 /// It also says which of their segments occur at least twice, and which rings run the wrong way. No two segments of the
-/// rings conflict, as `sort_out` ensures for those that it keeps. Fails only if memory runs out.
-pub fn land(alloc: Global, kept: &[CoastRing]) -> Result<Land, OutOfMemory>
-    requires { HaveNoConflicts (all_segments kept.now) }
+/// rings conflict, as `sort_out` ensures for those that it keeps; and it gives their segments, too. Fails only if memory runs
+/// out.
+pub fn land(alloc: Global, kept: &[CoastRing], segs: Segs) -> Result<Land, OutOfMemory>
+    requires clear { HaveNoConflicts (all_segments kept.now) }
+    requires segments { AreRingSegments kept.now segs }
     ensures { IfOk result (λ land. IsLandOf kept.now land) }
 {
     closed_lines_are_even();
     orders_are_exact();
-    let left = cancelled(alloc, kept)?;
+    let left = cancelled(alloc, segs)?;
     let edges = land_edges(alloc, left.survivors)?;
     let wrong_way = wrong_ways(alloc, edges.as_slice(), kept)?;
     Ok(Land {

@@ -21,6 +21,7 @@ mod sorting;
 mod sought;
 mod steps_along;
 mod stretches;
+mod taking_away;
 mod water_laws;
 mod watering;
 mod wrong_ways;

@@ -102,7 +102,7 @@ fn line_left(
     requires { IsFoundBy (contains seg_cmp crossed.now) ring.now }
     ensures { IfOk result (λ last. IsCutLine ring.now.name ring.now.path cuts.old last cuts.new) }
 {
-    if runs_along(alloc, crossed, ring)? {
+    if runs_along(crossed, ring.path.as_slice()) {
         return cut_line(alloc, cuts, ring.name, ring.path.as_slice());
     }
     copy_of(alloc, ring.path.as_slice())

@@ -5,15 +5,16 @@ ghost use Rattle.std.specs.List.{list_any};
 ghost use Rattle.std.specs.BTreeSet.{contains};
 ghost use Rattle.osm_lattice.specs.Seg.{seg_cmp};
 ghost use Rattle.coast_sides.specs.Land.{HaveNoConflicts};
-ghost use Rattle.coast_sides.specs.Segments.{all_segments, segments_round};
+ghost use Rattle.coast_sides.specs.Segments.{AreRingSegments, all_segments, segments_round};
 ghost use Rattle.coast_sides.specs.Sorting.{IsSorted};
 
 use crate::conflicting::{distinct_conflicts, runs_along, segments_of};
 use crate::cut::Cuts;
 use crate::ring_segments::all_segments;
 use crate::sorted::{Pairs, Sorted};
+use crate::taking_away::{in_order, segments_kept};
 use coast_join::{CoastRing, CoastRings};
-use osm_geom::{Path, Seg, conflicts_are_symmetric, orders_are_exact};
+use osm_geom::{Path, Seg, Segs, conflicts_are_symmetric, orders_are_exact};
 use std::alloc::{AllocError as OutOfMemory, Global};
 use std::collections::BTreeSet;
 
@@ -61,7 +62,7 @@ fn parted(
     let mut along = CoastRings::new(alloc);
     for ring in rings {
         let copy = copy_of(alloc, ring)?;
-        let is_along = runs_along(alloc, segs, ring)?;
+        let is_along = runs_along(segs, ring.path.as_slice());
         put(&mut free, &mut along, copy, is_along)?;
     }
     Ok((free, along))
@@ -70,21 +71,24 @@ fn parted(
 /// Rings sorted out: one is left out where one of its segments conflicts with a segment of any ring, itself included, and
 /// kept otherwise. Nothing cancels before segments are compared.
 ///
-/// No two segments of kept rings conflict. The error is want of memory.
-pub fn sort_out(alloc: Global, rings: &[CoastRing]) -> Result<Sorted, OutOfMemory>
-    ensures sorted { IfOk result (λ sorted. IsSorted rings.now sorted) }
-    ensures clear { IfOk result (λ sorted. HaveNoConflicts (all_segments sorted.kept)) }
+/// No two segments of kept rings conflict. It also gives these, each as often as it occurs. The error is want of memory.
+pub fn sort_out(alloc: Global, rings: &[CoastRing]) -> Result<(Sorted, Segs), OutOfMemory>
+    ensures sorted { IfOk result (λ out. IsSorted rings.now out.0) }
+    ensures clear { IfOk result (λ out. HaveNoConflicts (all_segments out.0.kept)) }
+    ensures segments { IfOk result (λ out. AreRingSegments out.0.kept out.1) }
 {
     orders_are_exact();
     conflicts_are_symmetric();
-    let segs = all_segments(alloc, rings)?;
-    let pairs = distinct_conflicts(alloc, segs)?;
+    let segs = in_order(all_segments(alloc, rings)?);
+    let pairs = distinct_conflicts(alloc, Vec::from_slice(alloc, &segs)?)?;
     let conflicting = segments_of(alloc, &pairs)?;
     let (kept, left_out) = parted(alloc, rings, &conflicting)?;
-    Ok(Sorted {
+    let segs_kept = segments_kept(alloc, segs, kept.as_slice(), left_out.as_slice())?;
+    let sorted = Sorted {
         kept,
         left_out,
         pairs: Pairs::from_vec(pairs),
         cuts: Cuts::new(alloc),
-    })
+    };
+    Ok((sorted, segs_kept))
 }

@@ -1,15 +1,15 @@
 //! Rings that run the wrong way: against an edge, which has land on its left.
 
-ghost use Rattle.std.specs.Prelude.{◌≡◌, ◌++◌, ◌∷◌, ◌||◌, [], if◌then◌else◌, IfOk, OnOk, filter, map};
+ghost use Rattle.std.specs.Prelude.{◌≡◌, ◌++◌, ◌∷◌, ◌||◌, [], if◌then◌else◌, IfOk, OnOk, false, filter, map};
 ghost use Rattle.std.specs.List.{list_any};
-ghost use Rattle.std.specs.List.Sorted.{IsSorted};
+ghost use Rattle.std.specs.Ordering.{is_eq};
 ghost use Rattle.coast_sides.specs.Segments.{steps_round};
-ghost use Rattle.coast_sides.specs.WrongWays.{is_one_of, runs_against, runs_along, step_cmp};
+ghost use Rattle.coast_sides.specs.WrongWays.{StepsAreInOrder, rises, runs_against, runs_along, stands_in, step_cmp, turned};
 
 use crate::ring_segments::next_round;
 use crate::sought::sought_near;
 use coast_join::CoastRing;
-use osm_geom::{Edge, Ids, Loc, Point};
+use osm_geom::{Edge, Ids, Loc, Point, orders_are_exact};
 use std::alloc::{AllocError as OutOfMemory, Global};
 
 /// A step from one location to another.
@@ -19,23 +19,74 @@ pub struct Step {
     pub to: Loc,
 }
 
-/// Adds the step along an edge.
-fn add_edge(steps: &mut Vec<Step>, edge: &Edge) -> Result<(), OutOfMemory>
-    ensures { OnOk result ((s : Step) → is_one_of steps.new.items s
-        ≡ (is_one_of steps.old.items s || runs_along s edge.now)) }
+/// The step back.
+fn turned(step: Step) -> Step
+    ensures { result ≡ turned step }
 {
-    if let (Point::Lattice(from), Point::Lattice(to)) = (edge.from, edge.to) {
-        steps.push(Step { from, to })?;
+    Step {
+        from: step.to,
+        to: step.from,
+    }
+}
+
+/// Whether a step goes to a later location.
+fn rises(step: Step) -> bool
+    ensures { result ≡ rises step }
+{
+    step.from.cmp(&step.to).is_lt()
+}
+
+/// Steps to be looked up: those that rise, and those that fall, which are turned.
+///
+/// So the steps along edges that are in order of their lower ends are in order in both lists.
+#[derive(Drop)]
+pub(crate) struct Steps {
+    pub rising: Vec<Step>,
+    pub falling: Vec<Step>,
+}
+
+/// Adds a step.
+fn add_step(steps: &mut Steps, step: Step) -> Result<(), OutOfMemory>
+    ensures { OnOk result ((s : Step) → stands_in steps.new s
+        ≡ (stands_in steps.old s || is_eq (step_cmp step s))) }
+{
+    orders_are_exact();
+    if rises(step) {
+        steps.rising.push(step)?;
+    } else {
+        steps.falling.push(turned(step))?;
     }
     Ok(())
 }
 
+/// Adds the step along an edge.
+fn add_edge(steps: &mut Steps, edge: &Edge) -> Result<(), OutOfMemory>
+    ensures { OnOk result ((s : Step) → stands_in steps.new s
+        ≡ (stands_in steps.old s || runs_along s edge.now)) }
+{
+    if let (Point::Lattice(from), Point::Lattice(to)) = (edge.from, edge.to) {
+        add_step(steps, Step { from, to })?;
+    }
+    Ok(())
+}
+
+/// No steps, with room for those along so many edges, of which about half rise.
+fn no_steps(alloc: Global, edges: usize) -> Result<Steps, OutOfMemory>
+    ensures { IfOk result (λ steps. (s : Step) → stands_in steps s ≡ false) }
+{
+    let room = (edges / 2).saturating_add(edges / 16);
+    Ok(Steps {
+        rising: Vec::with_capacity(alloc, room)?,
+        falling: Vec::with_capacity(alloc, room)?,
+    })
+}
+
 /// The steps along edges, one edge after the other.
-fn steps_by_edges(alloc: Global, edges: &[Edge]) -> Result<Vec<Step>, OutOfMemory>
-    ensures { IfOk result (λ v. (s : Step) → is_one_of v.items s
+fn steps_by_edges(alloc: Global, edges: &[Edge]) -> Result<Steps, OutOfMemory>
+    ensures { IfOk result (λ steps. (s : Step) → stands_in steps s
         ≡ list_any (runs_along s) edges.now) }
 {
-    let mut steps = Vec::with_capacity(alloc, edges.len())?;
+    let mut steps = no_steps(alloc, edges.len())?;
     for edge in edges {
         add_edge(&mut steps, edge)?;
     }
@@ -43,20 +94,43 @@ fn steps_by_edges(alloc: Global, edges: &[Edge]) -> Result<Vec<Step>, OutOfMemor
 }
 
 /// The steps along edges, in order.
-fn steps_along(alloc: Global, edges: &[Edge]) -> Result<Vec<Step>, OutOfMemory>
-    ensures order { IfOk result (λ v. IsSorted step_cmp v.items) }
-    ensures steps { IfOk result (λ v. (s : Step) → is_one_of v.items s
+fn steps_along(alloc: Global, edges: &[Edge]) -> Result<Steps, OutOfMemory>
+    ensures order { IfOk result StepsAreInOrder }
+    ensures steps { IfOk result (λ steps. (s : Step) → stands_in steps s
         ≡ list_any (runs_along s) edges.now) }
 {
     let mut steps = steps_by_edges(alloc, edges)?;
-    steps.sort_unstable();
+    steps.rising.sort_unstable();
+    steps.falling.sort_unstable();
     Ok(steps)
 }
 
-/// Whether a step of a closed line runs against one of these, which are in order. The searches begin near a place and leave another.
-fn meets(steps: &[Step], near: &mut usize, path: &[Loc]) -> bool
-    requires { IsSorted step_cmp steps.now }
-    ensures { result ≡ list_any (λ step. is_one_of steps.now
+/// Where searches ended: among the steps that rise, and among those that fall. Only speed rests on it.
+#[derive(Clone, Copy)]
+struct Ends {
+    rising: usize,
+    falling: usize,
+}
+
+/// Whether a step is among these, which are in order. The search begins near where the last one ended.
+fn is_among(steps: &Steps, ends: &mut Ends, step: Step) -> bool
+    requires { StepsAreInOrder steps.now }
+    ensures { result ≡ stands_in steps.now step }
+{
+    if rises(step) {
+        let sought = sought_near(&steps.rising, ends.rising, step);
+        ends.rising = sought.place;
+        return sought.is_there;
+    }
+    let sought = sought_near(&steps.falling, ends.falling, turned(step));
+    ends.falling = sought.place;
+    sought.is_there
+}
+
+/// Whether a step of a closed line runs against one of these, which are in order.
+fn meets(steps: &Steps, ends: &mut Ends, path: &[Loc]) -> bool
+    requires { StepsAreInOrder steps.now }
+    ensures { result ≡ list_any (λ step. stands_in steps.now
         (record { from = step.1; to = step.0 })) (steps_round path.now) }
 {
     for place in 0..path.len() {
@@ -64,9 +138,7 @@ fn meets(steps: &[Step], near: &mut usize, path: &[Loc]) -> bool
             from: path[next_round(place, path.len())],
             to: path[place],
         };
-        let sought = sought_near(steps, *near, back);
-        *near = sought.place;
-        if sought.is_there {
+        if is_among(steps, ends, back) {
             return true;
         }
     }
@@ -95,13 +167,13 @@ pub(crate) fn wrong_ways(
 {
     let steps = steps_along(alloc, edges)?;
     let mut names = Ids::new(alloc);
-    let mut near = 0;
+    let mut ends = Ends {
+        rising: 0,
+        falling: 0,
+    };
     for ring in rings {
-        add_name(
-            &mut names,
-            ring,
-            meets(&steps, &mut near, ring.path.as_slice()),
-        )?;
+        let is_wrong = meets(&steps, &mut ends, ring.path.as_slice());
+        add_name(&mut names, ring, is_wrong)?;
     }
     Ok(names)
 }

@@ -8,7 +8,7 @@ ghost use Rattle.std.specs.Ordering.{int_eq};
 ghost use Rattle.coast_join.specs.Chains.{AreChains};
 ghost use Rattle.coast_join.specs.declared.way.CoastWay.{CoastWay};
 ghost use Rattle.coast_sides.specs.Land.{HaveNoConflicts};
-ghost use Rattle.coast_sides.specs.Segments.{all_segments};
+ghost use Rattle.coast_sides.specs.Segments.{AreRingSegments, all_segments};
 ghost use Rattle.coast_sides.specs.CutSorting.{IsSortedWith, NamesOfRingsRise};
 ghost use Rattle.job_coastline.specs.CoastSteps.{IsInputOf, JoinsChains, MakesCoast, MakesLand};
 ghost use Rattle.job_coastline.specs.LandSteps.{KeepsLand};
@@ -24,7 +24,7 @@ use coast_join::{
     Chain, Closings, CoastInput, CoastRing, Joined, chains, closed_rings, closings, coast_input,
 };
 use coast_sides::{Land, Sorted, cut_and_sort_out, land, sort_out};
-use osm_geom::Edges;
+use osm_geom::{Edges, Segs};
 use osm_objects::Store;
 use osm_text::CoastLine;
 use osm_words::CoastlineSettings;
@@ -94,16 +94,18 @@ fn joined_of(
     closed_rings(alloc, &chains, &closings)
 }
 
-/// The rings sorted out, with their crossings cut or not. Lines tell of chains that are still unclosed.
+/// The rings sorted out, with their crossings cut or not, and the segments of those kept. Lines tell of chains that are still
+/// unclosed.
 fn sorted_of(
     alloc: Global,
     joined: Joined,
     cut_crossings: bool,
     lines: &mut Vec<CoastLine>,
-) -> Result<Sorted, OutOfMemory>
+) -> Result<(Sorted, Segs), OutOfMemory>
     requires { NamesOfRingsRise joined.rings }
-    ensures sorted { IfOk result (λ sorted. IsSortedWith cut_crossings joined.rings sorted) }
-    ensures clear { IfOk result (λ sorted. HaveNoConflicts (all_segments sorted.kept)) }
+    ensures sorted { IfOk result (λ out. IsSortedWith cut_crossings joined.rings out.0) }
+    ensures clear { IfOk result (λ out. HaveNoConflicts (all_segments out.0.kept)) }
+    ensures segments { IfOk result (λ out. AreRingSegments out.0.kept out.1) }
     ensures told { OnOk result (lines.new.items
         ≡ lines.old.items ++ map unclosed_line joined.unclosed) }
 {
@@ -136,16 +138,19 @@ fn add_land(alloc: Global, land: &Land, lines: &mut Vec<CoastLine>) -> Result<()
     Ok(())
 }
 
-/// The edges of land of kept rings. Lines tell of segments that stand more than once, and of rings that run the wrong way.
+/// The edges of land of kept rings with these segments. Lines tell of segments that stand more than once, and of rings that run the
+/// wrong way.
 fn kept_land(
     alloc: Global,
     kept: &[CoastRing],
+    segs: Segs,
     lines: &mut Vec<CoastLine>,
 ) -> Result<Edges, OutOfMemory>
-    requires { HaveNoConflicts (all_segments kept.now) }
+    requires clear { HaveNoConflicts (all_segments kept.now) }
+    requires segments { AreRingSegments kept.now segs }
     ensures { IfOk result (λ edges. KeepsLand kept.now edges lines.old.items lines.new.items) }
 {
-    let land = land(alloc, kept)?;
+    let land = land(alloc, kept, segs)?;
     add_land(alloc, &land, lines)?;
     Ok(land.edges)
 }
@@ -154,21 +159,29 @@ fn kept_land(
 fn sorted_land(
     alloc: Global,
     sorted: &Sorted,
+    segs: Segs,
     lines: &mut Vec<CoastLine>,
 ) -> Result<Edges, OutOfMemory>
-    requires { HaveNoConflicts (all_segments sorted.now.kept) }
+    requires clear { HaveNoConflicts (all_segments sorted.now.kept) }
+    requires segments { AreRingSegments sorted.now.kept segs }
     ensures { IfOk result (λ edges. MakesLand sorted.now edges lines.old.items lines.new.items) }
 {
     add_sorted(alloc, sorted, lines)?;
-    kept_land(alloc, sorted.kept.as_slice(), lines)
+    kept_land(alloc, sorted.kept.as_slice(), segs, lines)
 }
 
 /// The same. What was sorted out goes.
-fn land_of(alloc: Global, sorted: Sorted, lines: &mut Vec<CoastLine>) -> Result<Edges, OutOfMemory>
-    requires { HaveNoConflicts (all_segments sorted.kept) }
+fn land_of(
+    alloc: Global,
+    sorted: Sorted,
+    segs: Segs,
+    lines: &mut Vec<CoastLine>,
+) -> Result<Edges, OutOfMemory>
+    requires clear { HaveNoConflicts (all_segments sorted.kept) }
+    requires segments { AreRingSegments sorted.kept segs }
     ensures { IfOk result (λ edges. MakesLand sorted edges lines.old.items lines.new.items) }
 {
-    sorted_land(alloc, &sorted, lines)
+    sorted_land(alloc, &sorted, segs, lines)
 }
 
 /// The edges of land that come of coastline ways. Lines tell of all that is amiss with them.
@@ -184,8 +197,8 @@ fn land_in(
 {
     let chains = chains_of(alloc, input, lines)?;
     let joined = joined_of(alloc, chains, settings.close_distance, lines)?;
-    let sorted = sorted_of(alloc, joined, settings.cut_crossings, lines)?;
-    land_of(alloc, sorted, lines)
+    let (sorted, segs) = sorted_of(alloc, joined, settings.cut_crossings, lines)?;
+    land_of(alloc, sorted, segs, lines)
 }
 
 /// What is left of what comes of coastline ways.

@@ -80,23 +80,23 @@ fn land_in_words(alloc: Global, land: &Land) -> Result<String, OutOfMemory> {
 /// Whether the rings of closed ways are sorted out so.
 fn are_sorted(alloc: Global, lines: &str, wanted: &str) -> Result<bool, Fail> {
     let rings = rings_of(alloc, lines)?;
-    let sorted = sort_out(alloc, rings.as_slice())?;
+    let (sorted, _) = sort_out(alloc, rings.as_slice())?;
     Ok(sorted_in_words(alloc, &sorted)?.as_str() == wanted)
 }
 
 /// Whether this is the land of those that are kept.
 fn is_land(alloc: Global, lines: &str, wanted: &str) -> Result<bool, Fail> {
     let rings = rings_of(alloc, lines)?;
-    let sorted = sort_out(alloc, rings.as_slice())?;
-    let land = land(alloc, sorted.kept.as_slice())?;
+    let (sorted, segs) = sort_out(alloc, rings.as_slice())?;
+    let land = land(alloc, sorted.kept.as_slice(), segs)?;
     Ok(land_in_words(alloc, &land)?.as_str() == wanted)
 }
 
 /// Whether this is the water about them.
 fn is_water(alloc: Global, lines: &str, wanted: &str) -> Result<bool, Fail> {
     let rings = rings_of(alloc, lines)?;
-    let sorted = sort_out(alloc, rings.as_slice())?;
-    let land = land(alloc, sorted.kept.as_slice())?;
+    let (sorted, segs) = sort_out(alloc, rings.as_slice())?;
+    let land = land(alloc, sorted.kept.as_slice(), segs)?;
     let water = water(alloc, &land.edges)?;
     Ok(edges_in_degrees(alloc, water.as_slice())?.as_str() == wanted)
 }

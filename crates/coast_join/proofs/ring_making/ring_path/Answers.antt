@@ -1,5 +1,5 @@
 -- The path is closed without equal neighbours.
-use Rattle.std.proofs.Common.{◌≡◌, ◌++◌, List, ap, sym, subst, ◌∙◌, arith}
+use Rattle.std.proofs.Common.{◌≡◌, ◌++◌, List, ap, sym, subst, ◌∙◌}
 use Rattle.osm_lattice.specs.declared.loc.Loc.{Loc}
 use Rattle.coast_join.specs.Joined.{chains_at, corners, locations_along}
 use Rattle.coast_join.specs.Line.{IsLine}

@@ -1,7 +1,6 @@
 -- Where two locations are left, the line is closed.
-use Rattle.std.proofs.Common.{◌≡◌, ◌≤◌, List, ap, length, ◌∙◌}
+use Rattle.std.proofs.Common.{◌≡◌, ◌≤◌, ap, length, ◌∙◌}
 use Rattle.std.proofs.lemmas.Result.{IfOk-weaker}
-use Rattle.osm_lattice.specs.declared.loc.Loc.{Loc}
 use Rattle.coast_join.specs.Round.{IsRound, opened}
 use Rattle.coast_join.proofs.Rounding.{round_left}
 use Rattle.coast_join.proofs.round.round_path.Goals as goal

@@ -2,8 +2,6 @@
 use Rattle.std.proofs.Common.{List, subst, ap, ◌∙◌}
 use Rattle.std.specs.List.{list_any}
 use Rattle.osm_lattice.specs.declared.seg.Seg.{Seg}
-use Rattle.osm_segments.specs.declared.pairs.Pair.{Pair}
-use Rattle.coast_sides.specs.Segments.{all_segments}
 use Rattle.coast_sides.specs.Sorting.{AreConflicts, is_in_pair}
 use Rattle.coast_sides.proofs.cutting.cut_at_conflicts.Goals as goal
 

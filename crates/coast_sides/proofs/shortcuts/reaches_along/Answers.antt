@@ -1,5 +1,5 @@
 -- Nothing is reached at first, and then what all conflicts tell.
-use Rattle.std.proofs.Common.{◌<◌, ◌≡◌, All, List, ap, length, replicate, subst, sym, ◌∙◌, ℕ}
+use Rattle.std.proofs.Common.{◌<◌, ◌≡◌, All, ap, length, subst, sym, ◌∙◌, ℕ}
 use Rattle.std.proofs.lemmas.List.{length-replicate}
 use Rattle.coast_sides.specs.ShortcutSteps.{AreReaches}
 use Rattle.coast_sides.specs.declared.steps_along.StepAlong.{StepAlong}

@@ -10,9 +10,10 @@ use Rattle.coast_sides.proofs.sorting.parted.Goals as goal
 
 pub loop-ring-preserved : goal.loop-ring-preserved
 loop-ring-preserved c =
-    let p : CoastRing → Bool = λ ring. list_any (contains seg_cmp c.args.segs.now) (segments_round ring.path) in (
-      left_step p c.args.rings.now c.loop-ring.ring-index c.ring-item.result c.in_ok-is_along.is_along c.loop-ring.free _ c.loop-ring-test.true c.ring-item.is c.in_ok-is_along.ensures c.loop-ring.invariant.0
-          (c.in_ok-put.ensures.free ∙ ap (λ (r : CoastRing). c.loop-ring.free ++ (if c.in_ok-is_along.is_along then [] else r ∷ [])) c.in_ok-copy.ensures),
-      kept_step p c.args.rings.now c.loop-ring.ring-index c.ring-item.result c.in_ok-is_along.is_along c.loop-ring.along _ c.loop-ring-test.true c.ring-item.is c.in_ok-is_along.ensures c.loop-ring.invariant.1
-          (c.in_ok-put.ensures.along ∙ ap (λ (r : CoastRing). c.loop-ring.along ++ (if c.in_ok-is_along.is_along then r ∷ [] else [])) c.in_ok-copy.ensures),
+    let p : CoastRing → Bool = λ ring. list_any (contains seg_cmp c.args.segs.now) (segments_round ring.path) in
+    let is = c.runs_along-is_along.ensures ∙ ap (λ path. list_any (contains seg_cmp c.args.segs.now) (segments_round path)) c.as_slice.ensures in (
+      left_step p c.args.rings.now c.loop-ring.ring-index c.ring-item.result c.runs_along-is_along.result c.loop-ring.free _ c.loop-ring-test.true c.ring-item.is is c.loop-ring.invariant.0
+          (c.in_ok-put.ensures.free ∙ ap (λ (r : CoastRing). c.loop-ring.free ++ (if c.runs_along-is_along.result then [] else r ∷ [])) c.in_ok-copy.ensures),
+      kept_step p c.args.rings.now c.loop-ring.ring-index c.ring-item.result c.runs_along-is_along.result c.loop-ring.along _ c.loop-ring-test.true c.ring-item.is is c.loop-ring.invariant.1
+          (c.in_ok-put.ensures.along ∙ ap (λ (r : CoastRing). c.loop-ring.along ++ (if c.runs_along-is_along.result then r ∷ [] else [])) c.in_ok-copy.ensures),
     )

@@ -1,5 +1,5 @@
 -- No step is behind round the start of the line; the first one near enough, if it is behind.
-use Rattle.std.proofs.Common.{refl, ◌+◌, ◌-◌, ◌/◌, ◌≡◌, arith}
+use Rattle.std.proofs.Common.{refl, ◌-◌, arith}
 use Rattle.coast_sides.proofs.FarSteps.{far_back, none_behind}
 use Rattle.coast_sides.proofs.stretches.farthest_behind.Goals as goal
 

@@ -1,5 +1,5 @@
 -- The steps along both segments are those of the pair.
-use Rattle.std.proofs.Common.{length, ap, ◌||◌, ◌∙◌, Bool}
+use Rattle.std.proofs.Common.{length, ap, ◌||◌, ◌∙◌}
 use Rattle.coast_sides.specs.ShortcutSteps.{is_reached}
 use Rattle.coast_sides.proofs.ReachedLocations.{along_inside, by_pair, either_first}
 use Rattle.coast_sides.proofs.stretches.reach_between.Goals as goal

@@ -1,6 +1,5 @@
 -- What is reached from both sides of the step.
-use Rattle.std.proofs.Common.{length, ap, ◌||◌, ◌≡◌, ◌∙◌, Bool, true, false, refl}
-use Rattle.std.specs.Prelude.{ℕ}
+use Rattle.std.proofs.Common.{length, ap, ◌||◌, ◌≡◌, ◌∙◌, Bool, true, false}
 use Rattle.coast_sides.specs.ShortcutSteps.{is_on_stretch, is_reached}
 use Rattle.coast_sides.proofs.ReachedLocations.{found_from}
 use Rattle.coast_sides.proofs.stretches.reach_from.Goals as goal

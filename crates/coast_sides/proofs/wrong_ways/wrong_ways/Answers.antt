@@ -5,21 +5,21 @@ use Rattle.std.specs.List.{list_any}
 use Rattle.osm_lattice.specs.declared.loc.Loc.{Loc}
 use Rattle.coast_join.specs.declared.ring.CoastRing.{CoastRing}
 use Rattle.coast_sides.specs.Segments.{steps_round}
-use Rattle.coast_sides.specs.WrongWays.{runs_against, runs_between, is_one_of}
+use Rattle.coast_sides.specs.WrongWays.{runs_against, runs_between, stands_in}
 use Rattle.coast_sides.proofs.ListSteps.{named_step}
 use Rattle.coast_sides.proofs.SomeMember.{any_same, filter_alike}
 use Rattle.coast_sides.proofs.wrong_ways.wrong_ways.Goals as goal
 
 pub loop-ring-preserved : goal.loop-ring-preserved
 loop-ring-preserved c =
-    let f : Loc × Loc → Bool = λ step. is_one_of c.in_ok-steps.steps.items (record { from = step.1; to = step.0 }) in
+    let f : Loc × Loc → Bool = λ step. stands_in c.in_ok-steps.steps (record { from = step.1; to = step.0 }) in
     let p : CoastRing → Bool = λ ring. list_any f (steps_round ring.path) in
-    named_step (λ (ring : CoastRing). ring.name) p c.args.rings.now c.loop-ring.ring-index c.ring-item.result c.meets.result c.loop-ring.names _ c.loop-ring-test.true c.ring-item.is
-    (c.meets.ensures ∙ ap (λ steps. list_any (λ (step : Loc × Loc). is_one_of steps (record { from = step.1; to = step.0 })) (steps_round c.as_slice.result.now)) c.deref.ensures.value ∙ ap (λ path. list_any f (steps_round path)) c.as_slice.ensures) c.loop-ring.invariant c.in_ok-add_name.ensures
+    named_step (λ (ring : CoastRing). ring.name) p c.args.rings.now c.loop-ring.ring-index c.ring-item.result c.meets-is_wrong.result c.loop-ring.names _ c.loop-ring-test.true c.ring-item.is
+    (c.meets-is_wrong.ensures ∙ ap (λ path. list_any f (steps_round path)) c.as_slice.ensures) c.loop-ring.invariant c.in_ok-add_name.ensures
 
 pub returns : goal.returns
 returns c =
-    let f : Loc × Loc → Bool = λ step. is_one_of c.in_ok-steps.steps.items (record { from = step.1; to = step.0 }) in
+    let f : Loc × Loc → Bool = λ step. stands_in c.in_ok-steps.steps (record { from = step.1; to = step.0 }) in
     let p : CoastRing → Bool = λ ring. list_any f (steps_round ring.path) in
     let edges = c.args.edges.now in
     let same : (step : Loc × Loc) → f step ≡ list_any (runs_between step.1 step.0) edges = λ step. c.in_ok-steps.ensures.steps (record { from = step.1; to = step.0 }) in
