@@ -14,7 +14,7 @@ use Rattle.osm_objects.specs.CoastWays.{coast_ways, is_coast_way}
 use Rattle.osm_objects.specs.Object.{id_of, is_at, ref_of}
 use Rattle.osm_objects.specs.Objects.{AreApart, location_of, object_at, place_in, place_of, way_in}
 use Rattle.coast_join.specs.Input.{asides_by, asides_of, line_along, lines_by, missing_node_ids, refs_of, way_paths_in}
-use Rattle.coast_join.specs.Round.{once}
+use Rattle.coast_rings.specs.Round.{once}
 use Rattle.lists.specs.Member.{In}
 use Rattle.lists.specs.Once.{each_once}
 use Rattle.lists.proofs.ListsKit.{from-map, in-filter, in-map, in-passes, in-right, int_eq-true}

@@ -22,7 +22,7 @@ use Rattle.coast_join.specs.declared.chain.Chain.{Chain}
 use Rattle.coast_join.specs.Chains.{AreChains, IsChain, WayPath, joined_path, line_at, way_path_of}
 use Rattle.coast_join.specs.ChainLaws.{UnclosedEndsDiffer}
 use Rattle.coast_join.specs.ChainSteps.{path_at}
-use Rattle.coast_join.specs.Line.{IsLine, first_location, front_of, last_location, origin}
+use Rattle.coast_rings.specs.Line.{IsLine, first_location, front_of, last_location, origin}
 use Rattle.coast_join.specs.Links.{AreNextWays, count_before}
 use Rattle.coast_join.proofs.Joining.{whole_first}
 use Rattle.coast_join.proofs.Numbering.{before_all, before_less}

@@ -18,7 +18,7 @@ use Rattle.coast_join.specs.declared.way.CoastWay.{CoastWay}
 use Rattle.coast_join.specs.declared.chain.Chain.{Chain}
 use Rattle.coast_join.specs.Chains.{IsChain, WayPath, line_at, way_path_of}
 use Rattle.coast_join.specs.ChainLaws.{ClosedNamesAreLeast, WaysStandOnce}
-use Rattle.coast_join.specs.Line.{last_location}
+use Rattle.coast_rings.specs.Line.{last_location}
 use Rattle.coast_join.proofs.ChainEnds.{orbit_inside, zipped}
 
 -- ---- ids rise with places

@@ -11,10 +11,10 @@ use Rattle.orbits.specs.Orbits.{after, IsOrbit, last_number}
 use Rattle.coast_join.specs.declared.way.CoastWay.{CoastWay}
 use Rattle.coast_join.specs.Chains.{IsChain, WayPath, joined_path, line_at, way_path_of}
 use Rattle.coast_join.specs.ChainSteps.{path_at}
-use Rattle.coast_join.specs.Line.{IsLine, first_location, front_of, last_location, origin}
+use Rattle.coast_rings.specs.Line.{IsLine, first_location, front_of, last_location, origin}
 use Rattle.coast_join.specs.Links.{AreNextWays}
 use Rattle.coast_join.specs.RingLaws.{ClosedEndsDiffer}
-use Rattle.coast_join.proofs.Joining.{front_first, front_length}
+use Rattle.coast_rings.proofs.RingsKit.{front_first, front_length}
 use Rattle.coast_join.proofs.Parts.{first_joint, last_joint}
 
 -- ---- the fronts of lines one after the other

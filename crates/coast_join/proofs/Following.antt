@@ -16,12 +16,12 @@ use Rattle.coast_join.specs.declared.gap.Gap.{Gap}
 use Rattle.coast_join.specs.Closings.{gap_between, is_antarctic, is_open, near_pairs, open_ends, open_ends_at}
 use Rattle.coast_join.specs.Joined.{AreNext, Leads, chains_at, locations_along, ways_of}
 use Rattle.coast_join.specs.JoinSteps.{AreGapLinks, AreNextBy}
-use Rattle.coast_join.specs.Line.{IsLine}
-use Rattle.coast_join.specs.Round.{once}
+use Rattle.coast_rings.specs.Line.{IsLine}
+use Rattle.coast_rings.specs.Round.{once}
 use Rattle.coast_join.specs.Taken.{AreTaken}
 use Rattle.coast_join.proofs.Numbering.{get_old, get_new}
 use Rattle.coast_join.proofs.NearPairs.{ends_name, gap_names}
-use Rattle.coast_join.proofs.Rounding.{once_line}
+use Rattle.coast_rings.proofs.RingsKit.{once_line}
 use Rattle.coast_join.proofs.Stepping.{All-filter_map, All-flat_map, filtered_more}
 use Rattle.lists.proofs.ListsKit.{taken_more}
 

@@ -1,7 +1,7 @@
 -- Lines put one after the other are a line.
 use Rattle.std.proofs.Common.{◌≡◌, ℕ, zero, suc, ◌+◌, ◌-◌, ◌<◌, ◌≤◌, Bool, true, false, cond, List, [], ◌∷◌, ◌++◌, length, take, map, get_or, All, Option, Some, None, option_map, is_some, filter, refl, sym, ap, subst, ◌∙◌, arith, pos, Vec, Global}
 use Rattle.std.specs.List.{slice_get, flat_map, range_with_len, AllZip}
-use Rattle.std.proofs.lemmas.List.{append_assoc, append-nil, length-append, length-take-le, length-map, get_or-map, get_or_default, take_more}
+use Rattle.std.proofs.lemmas.List.{append_assoc, append-nil, length-append, length-map, get_or-map, get_or_default, take_more}
 use Rattle.std.proofs.lemmas.Bool.{false≢true}
 use Rattle.std.proofs.lemmas.List.Elements.{filter_more}
 use Rattle.std.proofs.lemmas.Option.{same_Some, slice_get-get_or, slice_get-map}
@@ -15,39 +15,13 @@ use Rattle.orbits.specs.Orbits.{after, last_number, IsOrbit}
 use Rattle.coast_join.specs.declared.chain.Chain.{Chain}
 use Rattle.coast_join.specs.Links.{AreNextWays}
 use Rattle.lists.proofs.ListsKit.{map-map}
+use Rattle.coast_rings.proofs.RingsKit.{closed_long, front_differ, front_first, front_last, front_length}
 use Rattle.coast_join.proofs.Sorting.{map-same}
 use Rattle.osm_lattice.specs.declared.loc.Loc.{Loc}
 use Rattle.coast_join.specs.declared.way.CoastWay.{CoastWay}
 use Rattle.coast_join.specs.Chains.{IsChain, WayPath, joined_path, line_at, way_path_of}
 use Rattle.coast_join.specs.ChainSteps.{AreLinked, Makes, path_at, member, ways_at}
-use Rattle.coast_join.specs.Line.{IsLine, NeighboursDiffer, first_location, front_of, last_location, origin}
-
-less_one : (n : ℕ) → suc (suc n) - 1 ≡ suc n
-less_one n = omega arith
-
-front_cons : (a b : Loc) (q : List Loc) → front_of (a ∷ (b ∷ q)) ≡ a ∷ front_of (b ∷ q)
-front_cons a b q =
-    let e : length (a ∷ (b ∷ q)) - 1 ≡ suc (length (b ∷ q) - 1) = omega arith in
-    ap (λ n. take n (a ∷ (b ∷ q))) e
-
-pub last_cons : (a b : Loc) (q : List Loc) → last_location (a ∷ (b ∷ q)) ≡ last_location (b ∷ q)
-last_cons a b q =
-    let e : length (a ∷ (b ∷ q)) - 1 ≡ suc (length (b ∷ q) - 1) = omega arith in
-    ap (λ n. get_or (a ∷ (b ∷ q)) n origin) e
-
--- a line is its front and its last location
-pub front_last : (p : List Loc) → 0 < length p → front_of p ++ last_location p ∷ [] ≡ p
-front_last [] h = absurd (omega arith)
-front_last (a ∷ []) h = refl
-front_last (a ∷ (b ∷ q)) h = rw (front_cons a b q, last_cons a b q) (ap (λ xs. a ∷ xs) (front_last (b ∷ q) (omega arith)))
-
-pub front_first : (p : List Loc) → 2 ≤ length p → (rest : List Loc) × (front_of p ≡ first_location p ∷ rest)
-front_first [] h = absurd (omega arith)
-front_first (a ∷ []) h = absurd (omega arith)
-front_first (a ∷ (b ∷ q)) h = (front_of (b ∷ q), front_cons a b q)
-
-pub front_length : (p : List Loc) → length (front_of p) ≡ length p - 1
-front_length p = length-take-le (length p - 1) p (omega arith)
+use Rattle.coast_rings.specs.Line.{IsLine, NeighboursDiffer, first_location, front_of, last_location}
 
 differ_tail : (x : Loc) (xs : List Loc) → NeighboursDiffer (x ∷ xs) → NeighboursDiffer xs
 differ_tail x xs h k = h (suc k)
@@ -60,15 +34,6 @@ glue : (xs : List Loc) (y : Loc) (ys : List Loc) → NeighboursDiffer (xs ++ y �
 glue [] y ys g h k p e n = h k p e n
 glue (x ∷ xs) y ys g h zero p e n = g zero p e (same_head xs [] ys y ∙ n)
 glue (x ∷ xs) y ys g h (suc k) p e n = glue xs y ys (differ_tail x (xs ++ y ∷ []) g) h k p e n
-
-get_front : (xs ys : List Loc) (k : ℕ) (p : Loc) → slice_get xs k ≡ Some p → slice_get (xs ++ ys) k ≡ Some p
-get_front [] ys k p e = absurd (cc)
-get_front (x ∷ xs) ys zero p e = e
-get_front (x ∷ xs) ys (suc k) p e = get_front xs ys k p e
-
--- what comes before differs still
-pub front_differ : (xs ys : List Loc) → NeighboursDiffer (xs ++ ys) → NeighboursDiffer xs
-front_differ xs ys h k p e n = h k p (get_front xs ys k p e) (get_front xs ys (suc k) p n)
 
 abbrev flat : List (List Loc) → List Loc
 flat paths = flat_map front_of paths
@@ -117,13 +82,6 @@ flat_long (p ∷ r) lines =
     let here = front_length p in
     let both = length-append (front_of p) (flat r) in
     omega arith
-
--- a line that ends where it starts has a location between
-pub closed_long : (p : List Loc) → IsLine p → last_location p ≡ first_location p → 3 ≤ length p
-closed_long [] line e = let l = line.long in absurd (omega arith)
-closed_long (a ∷ []) line e = let l = line.long in absurd (omega arith)
-closed_long (a ∷ (b ∷ [])) line e = absurd (line.differ 0 a refl (ap Some e))
-closed_long (a ∷ (b ∷ (c ∷ q))) line e = omega arith
 
 pub line_joined : (closed : Bool) (paths : List (List Loc)) → AreLinked closed paths → IsLine (joined_path closed paths)
 line_joined closed [] linked = let s = linked.some in absurd (omega arith)

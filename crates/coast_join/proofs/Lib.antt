@@ -1,13 +1,11 @@
 mod Following
 mod Inputs
-pub mod JoinKit
 mod Joining
 mod NearPairs
 mod NearestFirst
 pub mod Numbering
 mod OneMoreWay
 mod OneTaken
-mod Rounding
 mod Sorting
 pub mod Stepping
 mod NearestSites

@@ -13,7 +13,7 @@ use Rattle.coast_join.specs.declared.chain.Chain.{Chain}
 use Rattle.coast_join.specs.declared.gap.Gap.{Gap}
 use Rattle.coast_join.specs.declared.closing.OpenEnds.{OpenEnds}
 use Rattle.coast_join.specs.Closings.{gap_between, is_open, near_pairs, open_ends, open_ends_at, square_between}
-use Rattle.coast_join.specs.Line.{first_location, last_location}
+use Rattle.coast_rings.specs.Line.{first_location, last_location}
 use Rattle.coast_join.specs.GapSteps.{gap_cmp}
 use Rattle.coast_join.specs.Taken.{AreTaken}
 use Rattle.coast_join.proofs.NearestFirst.{gap_cmp_total}

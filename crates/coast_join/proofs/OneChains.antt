@@ -17,8 +17,9 @@ use Rattle.osm_lattice.specs.declared.loc.Loc.{Loc}
 use Rattle.coast_join.specs.declared.chain.Chain.{Chain}
 use Rattle.coast_join.specs.Chains.{IsChain, WayPath, joined_path, line_at, way_path_of}
 use Rattle.coast_join.specs.ChainLaws.{ChainsAreOne}
-use Rattle.coast_join.specs.Line.{IsLine, first_location, last_location}
+use Rattle.coast_rings.specs.Line.{IsLine, first_location, last_location}
 use Rattle.coast_join.specs.Links.{AreNextWays}
+use Rattle.coast_rings.proofs.RingsKit.{line_prop}
 use Rattle.coast_join.proofs.Numbering.{one_to_one}
 use mathlib.Core.HLevel.{is_prop→PathP}
 
@@ -83,9 +84,6 @@ one_next ends starts a b la lb = same_options a b (la.sized ∙ sym lb.sized) (�
     by i None None ea eb = ea ∙ sym eb
 
 -- ---- one chain of an orbit
-
-pub line_prop : (path : List Loc) → IsProp (IsLine path)
-line_prop path = hlevel props
 
 some_prop : (ids : List ℤ) → IsProp (0 < length ids)
 some_prop ids = hlevel props

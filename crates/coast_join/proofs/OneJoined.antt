@@ -1,6 +1,5 @@
 -- Of chains and closings there is one joined.
 use Rattle.std.proofs.Common.{◌≡◌, ℕ, zero, suc, ◌<◌, ◌≤ℤ◌, ℤ, Bool, true, false, not, List, [], ◌∷◌, length, filter, Option, Some, None, refl, sym, ap, subst, ◌∙◌, arith, ⊎_elim}
-use Rattle.std.proofs.Props.{props}
 use Rattle.std.specs.List.{AllZip, slice_get}
 use Rattle.std.specs.List.Sorted.{IsPermutation}
 use Rattle.std.specs.declared.cmp.Ordering.TheVariants.{Less}
@@ -8,23 +7,21 @@ use Rattle.std.specs.Ordering.{int_cmp}
 use Rattle.std.proofs.lemmas.Bool.{cases_lt}
 use Rattle.std.proofs.lemmas.List.{get_or_past}
 use Rattle.std.proofs.lemmas.List.Elements.{All-contains}
-use Rattle.osm_lattice.specs.declared.loc.Loc.{Loc}
 use Rattle.orbits.specs.OrbitLaws.{OrbitsAreOne}
 use Rattle.orbits.specs.Orbits.{after, AreOrbitsInOrder, AreOrbits, IsOneToOne}
 use Rattle.coast_join.specs.declared.chain.Chain.{Chain}
 use Rattle.coast_join.specs.declared.gap.Closings.{Closings}
 use Rattle.coast_join.specs.declared.gap.Gap.{Gap}
-use Rattle.coast_join.specs.declared.ring.CoastRing.{CoastRing}
-use Rattle.coast_join.specs.declared.ring.Joined.{Joined}
+use Rattle.coast_rings.specs.declared.ring.CoastRing.{CoastRing}
+use Rattle.coast_join.specs.declared.joined.Joined.{Joined}
 use Rattle.coast_join.specs.ById.{id_at}
 use Rattle.coast_join.specs.Closings.{AreClosings, is_open, names_of}
 use Rattle.coast_join.specs.Joined.{AreJoined, AreNext, IsCoastRing, IsLeast, IsUnclosed, chains_at, is_closed_orbit}
-use Rattle.coast_join.specs.Round.{IsRound}
 use Rattle.coast_join.specs.Taken.{named_gap_cmp}
+use Rattle.coast_rings.proofs.RingsKit.{ring_from_fields}
 use Rattle.coast_join.proofs.Following.{next_one}
 use Rattle.coast_join.proofs.OneChains.{chain_from_fields, one_order, same_options}
 use Rattle.lists.proofs.ListsKit.{pairs-each, same_from_least}
-use mathlib.Core.HLevel.{is_prop→PathP}
 
 -- ---- one map of what chains go on to
 
@@ -50,16 +47,6 @@ module _ (chains : List Chain) (gaps : List Gap) (a b : List (Option ℕ)) (na :
       (cases_lt i (length chains)))
 
 -- ---- one ring and one unclosed chain of an orbit
-
-round_prop : (path : List Loc) → IsProp (IsRound path)
-round_prop path = hlevel props
-
-pub ring_from_fields : (r s : CoastRing) → r.name ≡ s.name → r.path ≡ s.path → r ≡ s
-ring_from_fields r s n p = λ i. record {
-  name = n i;
-  path = p i;
-  round = is_prop→PathP (λ j. IsRound (p j)) (λ j. round_prop (p j)) r.round s.round i;
-}
 
 one_least : (ids : List ℤ) (a b : ℤ) → IsLeast ids a → IsLeast ids b → a ≡ b
 one_least ids a b la lb = same_from_least a b (All-contains (λ other. a ≤ℤ other) ids b la.least lb.stands) (All-contains (λ other. b ≤ℤ other) ids a lb.least la.stands)

@@ -13,9 +13,9 @@ use Rattle.coast_join.specs.ChainLaws.{UnclosedEndsDiffer}
 use Rattle.coast_join.specs.Closings.{is_antarctic, is_open}
 use Rattle.coast_join.specs.Joined.{AreNext, chains_at, locations_along}
 use Rattle.coast_join.specs.JoinSteps.{AreParts, EndWhereNoneStarts}
-use Rattle.coast_join.specs.Line.{IsLine, NeighboursDiffer, first_location, last_location, origin}
+use Rattle.coast_rings.specs.Line.{IsLine, NeighboursDiffer, first_location, last_location, origin}
 use Rattle.coast_join.specs.RingLaws.{ClosedEndsDiffer}
-use Rattle.coast_join.specs.Round.{IsRound}
+use Rattle.coast_rings.specs.Round.{IsRound}
 use Rattle.coast_join.proofs.Following.{some_at}
 
 -- ---- lines one after the other

@@ -17,7 +17,7 @@ use Rattle.lists.specs.Rising.{IsRising}
 use Rattle.orbits.specs.Once.{HoldEachOnce}
 use Rattle.orbits.specs.Orbits.{first}
 use Rattle.coast_join.specs.declared.chain.Chain.{Chain}
-use Rattle.coast_join.specs.declared.ring.CoastRing.{CoastRing}
+use Rattle.coast_rings.specs.declared.ring.CoastRing.{CoastRing}
 use Rattle.coast_join.specs.declared.way.CoastWay.{CoastWay}
 use Rattle.coast_join.specs.ById.{id_at}
 use Rattle.coast_join.specs.Chains.{AreChains, IsChain, WayPath, line_at}

@@ -10,7 +10,7 @@ use Rattle.orbits.specs.OnceLaws.{StandBelow}
 use Rattle.orbits.specs.Orbits.{after, first, IsOrbit, last_number}
 use Rattle.coast_join.specs.declared.chain.Chain.{Chain}
 use Rattle.coast_join.specs.declared.gap.Closings.{Closings}
-use Rattle.coast_join.specs.declared.ring.Joined.{Joined}
+use Rattle.coast_join.specs.declared.joined.Joined.{Joined}
 use Rattle.coast_join.specs.declared.way.CoastWay.{CoastWay}
 use Rattle.coast_join.specs.ById.{id_at}
 use Rattle.coast_join.specs.Chains.{AreChains}

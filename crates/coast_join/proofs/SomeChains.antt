@@ -28,7 +28,7 @@ use Rattle.coast_join.specs.ById.{AreById, id_at}
 use Rattle.coast_join.specs.Chains.{IsChain, WayPath, joined_path, line_at}
 use Rattle.coast_join.specs.ChainLaws.{ChainsExist}
 use Rattle.coast_join.specs.ChainSteps.{member, ways_at}
-use Rattle.coast_join.specs.Line.{IsLine, first_location, last_location}
+use Rattle.coast_rings.specs.Line.{IsLine, first_location, last_location}
 use Rattle.coast_join.specs.Links.{AreNextWays, AreNumbered, key_cmp}
 use Rattle.coast_join.proofs.Joining.{line_joined, orbit_linked, order_inside, sorted_rising, sorted_same}
 use Rattle.coast_join.proofs.Numbering.{ArePlaces, links_are, numbered_none, numbered_push, numbered_sized, one_to_one, places_none, places_push}

@@ -17,8 +17,8 @@ use Rattle.orbits.specs.Orbits.{after, IsOneToOne}
 use Rattle.coast_join.specs.declared.chain.Chain.{Chain}
 use Rattle.coast_join.specs.declared.gap.Closings.{Closings}
 use Rattle.coast_join.specs.declared.gap.Gap.{Gap}
-use Rattle.coast_join.specs.declared.ring.CoastRing.{CoastRing}
-use Rattle.coast_join.specs.declared.ring.Joined.{Joined}
+use Rattle.coast_rings.specs.declared.ring.CoastRing.{CoastRing}
+use Rattle.coast_join.specs.declared.joined.Joined.{Joined}
 use Rattle.coast_join.specs.declared.way.CoastWay.{CoastWay}
 use Rattle.coast_join.specs.ById.{id_at}
 use Rattle.coast_join.specs.Chains.{AreChains}
@@ -28,7 +28,7 @@ use Rattle.coast_join.specs.GapSteps.{gap_cmp}
 use Rattle.coast_join.specs.Joined.{AreJoined, AreNext, IsCoastRing, IsLeast, IsUnclosed, chains_at, corners, is_closed_orbit, locations_along, ring_path, ways_of}
 use Rattle.coast_join.specs.JoinSteps.{AreGapLinks, AreNextBy, AreParts}
 use Rattle.coast_join.specs.RingLaws.{ClosedEndsDiffer}
-use Rattle.coast_join.specs.Round.{IsRound, once}
+use Rattle.coast_rings.specs.Round.{IsRound, once}
 use Rattle.coast_join.specs.Taken.{AreTaken, named_gap_cmp}
 use Rattle.coast_join.proofs.Following.{gaps_apart, gaps_from, line_of_chains, links_more, links_none, next_are, next_none, next_one, next_push, ways_some}
 use Rattle.coast_join.proofs.NameOrder.{IsBelow, by_names}
@@ -36,7 +36,7 @@ use Rattle.coast_join.proofs.NearPairs.{ends_below, pairs_below, taken_once}
 use Rattle.coast_join.proofs.NearestFirst.{choose, none_marked, rising_front, skip, some_marked}
 use Rattle.coast_join.proofs.Parts.{orbits_are_parts, parts_round}
 use Rattle.coast_join.proofs.RingNames.{names_apart, rising_unclosed}
-use Rattle.coast_join.proofs.Rounding.{round_from}
+use Rattle.coast_rings.proofs.RingsKit.{round_from}
 use Rattle.coast_join.proofs.SomeChains.{all_pairs, by_pushing, ordered}
 use Rattle.lists.proofs.ListsKit.{all-in, in-all, in-filter, pairs-each, pairs-out-of-map}
 

@@ -13,7 +13,7 @@ use Rattle.coast_join.specs.Chains.{WayPath, way_path_of}
 use Rattle.coast_join.specs.Input.{is_empty, line_along, missing_node_ids, refs_of, way_paths_in}
 use Rattle.coast_join.specs.InputLaws.{CoastWaysExist}
 use Rattle.coast_join.proofs.Inputs.{ways_apart}
-use Rattle.coast_join.proofs.Rounding.{once_differs}
+use Rattle.coast_rings.proofs.RingsKit.{once_differs}
 
 module _ (exact : LocationOrderTellsApart) (objects : List Object) where
   abbrev Ways : List WayPath → Type 0

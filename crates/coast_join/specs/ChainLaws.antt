@@ -6,7 +6,7 @@ use Rattle.lists.specs.Rising.{IsRising}
 use Rattle.coast_join.specs.declared.way.CoastWay.{CoastWay}
 use Rattle.coast_join.specs.declared.chain.Chain.{Chain}
 use Rattle.coast_join.specs.Chains.{AreChains}
-use Rattle.coast_join.specs.Line.{first_location, last_location}
+use Rattle.coast_rings.specs.Line.{first_location, last_location}
 
 -- an unclosed chain doesn't end where an unclosed chain starts
 abbrev pub UnclosedEndsDiffer : Type 0

@@ -2,7 +2,7 @@
 use Rattle.std.specs.Prelude.{◌≡◌, ◌<◌, ◌-◌, ℕ, suc, Bool, true, All, List, [], length, map, slice_index_or}
 use Rattle.osm_lattice.specs.declared.loc.Loc.{Loc}
 use Rattle.coast_join.specs.declared.chain.Chain.{Chain}
-use Rattle.coast_join.specs.Line.{IsLine, first_location, last_location}
+use Rattle.coast_rings.specs.Line.{IsLine, first_location, last_location}
 use Rattle.coast_join.specs.declared.way.CoastWay.{CoastWay}
 use Rattle.coast_join.specs.Chains.{WayPath, joined_path, line_at, way_path_of}
 

@@ -8,7 +8,7 @@ use Rattle.lists.specs.Rising.{IsRising}
 use Rattle.orbits.specs.Orbits.{AreOrbits, AreOrbitsInOrder, after, last_number}
 use Rattle.coast_join.specs.declared.way.CoastWay.{CoastWay}
 use Rattle.coast_join.specs.declared.chain.Chain.{Chain}
-use Rattle.coast_join.specs.Line.{first_location, front_of, last_location}
+use Rattle.coast_rings.specs.Line.{first_location, front_of, last_location}
 use Rattle.coast_join.specs.Links.{AreNextWays}
 
 -- a way's id and locations

@@ -7,7 +7,7 @@ use Rattle.coast_join.specs.declared.chain.Chain.{Chain}
 use Rattle.coast_join.specs.declared.gap.Gap.{Gap}
 use Rattle.coast_join.specs.declared.gap.Closings.{Closings}
 use Rattle.coast_join.specs.declared.closing.OpenEnds.{OpenEnds}
-use Rattle.coast_join.specs.Line.{first_location, last_location}
+use Rattle.coast_rings.specs.Line.{first_location, last_location}
 use Rattle.coast_join.specs.Taken.{AreTaken, named_gap_cmp}
 
 -- the places of a list at which a test holds, in order

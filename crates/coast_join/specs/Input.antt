@@ -11,7 +11,7 @@ use Rattle.coast_join.specs.declared.way.Aside.{Aside}
 use Rattle.coast_join.specs.declared.way.Aside.TheVariants.{Missing, Short}
 use Rattle.coast_join.specs.Chains.{WayPath}
 use Rattle.lists.specs.Once.{each_once}
-use Rattle.coast_join.specs.Round.{once}
+use Rattle.coast_rings.specs.Round.{once}
 
 -- the references of a way
 abbrev pub refs_of : List Object → ℤ → List Ref

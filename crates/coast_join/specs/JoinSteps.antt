@@ -6,7 +6,7 @@ use Rattle.coast_join.specs.declared.chain.Chain.{Chain}
 use Rattle.coast_join.specs.declared.gap.Gap.{Gap}
 use Rattle.coast_join.specs.Closings.{is_open}
 use Rattle.coast_join.specs.Joined.{Leads, chains_at}
-use Rattle.coast_join.specs.Line.{first_location, last_location}
+use Rattle.coast_rings.specs.Line.{first_location, last_location}
 
 -- for each chain the one to which a gap leads
 pub record AreGapLinks (gaps : List Gap) (n : ℕ) (links : List (Option ℕ)) : Type 0 where

@@ -1,20 +1,20 @@
 -- Chains joined to rings.
-use Rattle.std.specs.Prelude.{◌≡◌, ◌↔◌, ◌++◌, ◌≤ℤ◌, ℕ, ℤ, pos, neg_ℤ, Bool, false, true, not, if◌then◌else◌, List, [], ◌∷◌, length, filter, All, Contains, Option, Some, is_some}
+use Rattle.std.specs.Prelude.{◌≡◌, ◌↔◌, ◌++◌, ◌≤ℤ◌, ℕ, ℤ, Bool, false, true, not, if◌then◌else◌, List, [], ◌∷◌, length, filter, All, Contains, Option, Some, is_some}
 use Rattle.std.specs.List.{AllZip, filter_map, flat_map, list_any, slice_get}
 use Rattle.std.specs.List.Sorted.{IsPermutation}
 use Rattle.std.specs.Ordering.{int_cmp, on}
-use Rattle.std.proofs.Common.{lit≤}
 use Rattle.osm_lattice.specs.declared.loc.Loc.{Loc}
 use Rattle.lists.specs.Rising.{IsRising}
 use Rattle.orbits.specs.Orbits.{AreOrbits, AreOrbitsInOrder, after, last_number}
 use Rattle.coast_join.specs.declared.chain.Chain.{Chain}
 use Rattle.coast_join.specs.declared.gap.Closings.{Closings}
 use Rattle.coast_join.specs.declared.gap.Gap.{Gap}
-use Rattle.coast_join.specs.declared.ring.CoastRing.{CoastRing}
-use Rattle.coast_join.specs.declared.ring.Joined.{Joined}
+use Rattle.coast_rings.specs.declared.ring.CoastRing.{CoastRing}
+use Rattle.coast_join.specs.declared.joined.Joined.{Joined}
 use Rattle.coast_join.specs.ById.{id_at}
 use Rattle.coast_join.specs.Closings.{is_antarctic, is_open}
-use Rattle.coast_join.specs.Round.{once_round}
+use Rattle.coast_rings.specs.Round.{once_round}
+use Rattle.coast_rings.specs.Corners.{south_east, south_west}
 
 -- a gap leads from the end of chain i to the start of chain j
 abbrev pub Leads : List Gap → ℕ → ℕ → Type 0
@@ -36,12 +36,6 @@ ways_of chains = flat_map (λ c. c.ways) chains
 
 abbrev pub locations_along : List Chain → List Loc
 locations_along chains = flat_map (λ c. c.path) chains
-
-abbrev pub south_west : Loc
-south_west = record { x = neg_ℤ (pos 1800000000); y = neg_ℤ (pos 900000000); x_in = lit≤ tt; y_in = lit≤ tt }
-
-abbrev pub south_east : Loc
-south_east = record { x = pos 1800000000; y = neg_ℤ (pos 900000000); x_in = lit≤ tt; y_in = lit≤ tt }
 
 -- the corners by which a chain round Antarctica is closed
 abbrev pub corners : List Loc

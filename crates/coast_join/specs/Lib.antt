@@ -1,11 +1,9 @@
-pub mod Line
 pub mod Links
 pub mod ById
 pub mod Chains
 pub mod ChainSteps
 pub mod Taken
 pub mod Closings
-pub mod Round
 pub mod Joined
 pub mod JoinSteps
 pub mod Input

@@ -3,12 +3,12 @@ use Rattle.std.specs.Prelude.{◌≡◌, ◌≢◌, ◌≤ℤ◌, ℕ, true, Lis
 use Rattle.coast_join.specs.declared.way.CoastWay.{CoastWay}
 use Rattle.coast_join.specs.declared.chain.Chain.{Chain}
 use Rattle.coast_join.specs.declared.gap.Closings.{Closings}
-use Rattle.coast_join.specs.declared.ring.Joined.{Joined}
+use Rattle.coast_join.specs.declared.joined.Joined.{Joined}
 use Rattle.coast_join.specs.ById.{id_at}
 use Rattle.coast_join.specs.Chains.{AreChains}
 use Rattle.coast_join.specs.Closings.{AreClosings, names_of}
 use Rattle.coast_join.specs.Joined.{AreJoined, chains_at, is_closed_orbit}
-use Rattle.coast_join.specs.Line.{first_location, last_location}
+use Rattle.coast_rings.specs.Line.{first_location, last_location}
 
 -- the path of a closed chain doesn't end where it starts: the step from its last location to its first closes it
 abbrev pub ClosedEndsDiffer : Type 0

@@ -8,7 +8,7 @@ ghost use Rattle.coast_join.specs.declared.way.CoastWay.{CoastWay};
 ghost use Rattle.coast_join.specs.Chains.{AreChains, IsChain, WayPath, joined_path};
 ghost use Rattle.coast_join.specs.ChainSteps.{AreLinked, Makes, ways_at};
 ghost use Rattle.coast_join.specs.Links.{AreNextWays};
-ghost use Rattle.coast_join.specs.Line.{first_location, front_of, last_location};
+ghost use Rattle.coast_rings.specs.Line.{first_location, front_of, last_location};
 
 use crate::by_id::by_id;
 use crate::chain::Chain;

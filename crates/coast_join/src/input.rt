@@ -8,11 +8,11 @@ ghost use Rattle.osm_objects.specs.CoastWays.{coast_ways};
 ghost use Rattle.osm_objects.specs.Objects.{place_of};
 ghost use Rattle.coast_join.specs.declared.way.Aside.TheVariants.{Missing};
 ghost use Rattle.coast_join.specs.Chains.{way_path_of};
-ghost use Rattle.coast_join.specs.Line.{NeighboursDiffer};
+ghost use Rattle.coast_rings.specs.Line.{NeighboursDiffer};
 ghost use Rattle.coast_join.specs.Input.{asides_by, asides_of, line_along, lines_by, missing_node_ids, way_paths_in};
 
-use crate::round::once_path;
 use crate::way::{Aside, Asides, CoastWay, CoastWays};
+use coast_rings::once_path;
 use lists::each_once;
 use osm_elements::Refs;
 use osm_geom::{Loc, Path, orders_are_exact};

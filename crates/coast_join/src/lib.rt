@@ -9,14 +9,13 @@ mod closing;
 mod gap;
 mod input;
 mod input_laws;
+mod joined;
 mod laws;
 mod links;
 mod nearest_pairs;
 mod regained;
-mod ring;
 mod ring_laws;
 mod ring_making;
-mod round;
 mod site_order;
 mod site_tree;
 mod sites;
@@ -28,16 +27,15 @@ pub use closing::closings;
 pub use gap::{Closings, Gap, Gaps, Indexes};
 pub use input::{CoastInput, coast_input};
 pub use input_laws::coast_ways_exist;
+pub use joined::Joined;
 pub use laws::{
     chains_are_determined, chains_exist, closed_names_are_least, names_rise, unclosed_ends_differ,
     ways_stand_once,
 };
 pub use nearest_pairs::taken_pairs_are_determined;
 pub use regained::closed_rings;
-pub use ring::{CoastRing, CoastRings, Joined};
 pub use ring_laws::{
     closed_ends_differ, closings_are_determined, closings_exist, joined_exists,
     joined_is_determined, rings_begin_at_least_names,
 };
-pub use round::round_path;
 pub use way::{Aside, Asides, CoastWay, CoastWays};

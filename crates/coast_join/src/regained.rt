@@ -5,7 +5,7 @@ ghost use Rattle.std.specs.List.{AllZip};
 ghost use Rattle.std.specs.List.Sorted.{IsPermutation, IsSortedByKey};
 ghost use Rattle.std.specs.Ordering.{int_cmp};
 ghost use Rattle.coast_join.specs.declared.chain.Chain.{Chain};
-ghost use Rattle.coast_join.specs.declared.ring.CoastRing.{CoastRing};
+ghost use Rattle.coast_rings.specs.declared.ring.CoastRing.{CoastRing};
 ghost use Rattle.coast_join.specs.declared.way.CoastWay.{CoastWay};
 ghost use Rattle.coast_join.specs.Chains.{AreChains};
 ghost use Rattle.coast_join.specs.Closings.{AreClosings};
@@ -14,10 +14,11 @@ ghost use Rattle.coast_join.specs.JoinSteps.{AreParts};
 
 use crate::chain::{Chain, Chains};
 use crate::gap::Closings;
+use crate::joined::Joined;
 use crate::laws::{names_rise, unclosed_ends_differ};
-use crate::ring::{CoastRing, CoastRings, Joined};
 use crate::ring_laws::closed_ends_differ;
 use crate::ring_making::{gap_links, next_chains, ring_of, unclosed_of};
+use coast_rings::{CoastRing, CoastRings};
 use orbits::{each_stands_once, orbits};
 use std::alloc::{AllocError as OutOfMemory, Global};
 

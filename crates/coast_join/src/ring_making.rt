@@ -6,15 +6,15 @@ ghost use Rattle.osm_lattice.specs.declared.loc.Loc.{Loc};
 ghost use Rattle.coast_join.specs.declared.chain.Chain.{Chain};
 ghost use Rattle.coast_join.specs.declared.gap.Gap.{Gap};
 ghost use Rattle.coast_join.specs.Closings.{is_antarctic, is_open};
-ghost use Rattle.coast_join.specs.Joined.{IsCoastRing, IsLeast, IsUnclosed, chains_at, corners, locations_along, ring_path, south_east, south_west, ways_of};
+ghost use Rattle.coast_join.specs.Joined.{IsCoastRing, IsLeast, IsUnclosed, chains_at, corners, locations_along, ring_path, ways_of};
+ghost use Rattle.coast_rings.specs.Corners.{south_east, south_west};
 ghost use Rattle.coast_join.specs.JoinSteps.{AreGapLinks, AreNextBy, AreParts};
-ghost use Rattle.coast_join.specs.Round.{IsRound};
+ghost use Rattle.coast_rings.specs.Round.{IsRound};
 
 use crate::chain::Chain;
 use crate::closing::{is_antarctic, is_open};
 use crate::gap::Gap;
-use crate::ring::CoastRing;
-use crate::round::round_path;
+use coast_rings::{CoastRing, round_path};
 use osm_geom::{Ids, Loc, Path, orders_are_exact};
 use std::alloc::{AllocError as OutOfMemory, Global};
 

@@ -1,7 +1,7 @@
 //! Coastline ways, and lists of them.
 
 ghost use Rattle.std.specs.Prelude.{◌≡◌};
-ghost use Rattle.coast_join.specs.Line.{IsLine, first_location, last_location};
+ghost use Rattle.coast_rings.specs.Line.{IsLine, first_location, last_location};
 
 use lists::List;
 use osm_geom::{Loc, Path};

@@ -16,7 +16,7 @@ use Rattle.osm_sides.specs.Laws.{DirectedAreWhole, DirectionsExist}
 use Rattle.osm_segments.specs.Counts.{HasEvenNodes}
 use Rattle.osm_sides.proofs.SidesKit.{directed_counts, directed_is_sided}
 use Rattle.osm_geom.specs.InPlane.SidedLaws.{LatticeIsSided}
-use Rattle.coast_join.specs.declared.ring.CoastRing.{CoastRing}
+use Rattle.coast_rings.specs.declared.ring.CoastRing.{CoastRing}
 use Rattle.coast_sides.specs.CutSorting.{RoundsEnd}
 use Rattle.coast_sides.specs.ExistenceLaws.{LandExists, SortedExists, WaterExists}
 use Rattle.coast_sides.specs.Land.{HaveNoConflicts, IsLand}

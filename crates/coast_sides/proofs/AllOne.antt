@@ -19,8 +19,8 @@ use Rattle.osm_segments.specs.Laws.{RepeatsAreOne}
 use Rattle.osm_segments.specs.declared.pairs.Pair.{Pair}
 use Rattle.osm_sides.specs.Directions.{AreDirected}
 use Rattle.osm_sides.specs.Laws.{DirectionsAreOne}
-use Rattle.coast_join.specs.declared.ring.CoastRing.{CoastRing}
-use Rattle.coast_join.specs.Line.{origin}
+use Rattle.coast_rings.specs.declared.ring.CoastRing.{CoastRing}
+use Rattle.coast_rings.specs.Line.{origin}
 use Rattle.coast_sides.specs.Choice.{AreChosen}
 use Rattle.coast_sides.specs.Land.{IsLand}
 use Rattle.coast_sides.specs.OnenessLaws.{LandIsOne, SortedIsOne, WaterIsOne}
@@ -28,7 +28,7 @@ use Rattle.coast_sides.specs.Segments.{all_segments}
 use Rattle.coast_sides.specs.Sorting.{AreConflicts}
 use Rattle.coast_sides.specs.Water.{AreSides, IsSide, is_east, is_north, is_south, is_west, north_east, north_west, pieces}
 use Rattle.coast_sides.specs.WrongWays.{runs_against}
-use Rattle.coast_join.specs.Joined.{south_east, south_west}
+use Rattle.coast_rings.specs.Corners.{south_east, south_west}
 use Rattle.coast_sides.proofs.CutDowns.{cut_down_one}
 use Rattle.coast_sides.proofs.EvenRings.{loc_cmp_total, seg_cmp_total}
 use Rattle.coast_sides.proofs.KeptRings.{chosen_one}

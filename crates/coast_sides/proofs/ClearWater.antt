@@ -22,8 +22,8 @@ use Rattle.osm_lattice.specs.Seg.{edge_of, seg_cmp}
 use Rattle.lists.specs.Rising.{IsRising}
 use Rattle.osm_segments.specs.Counts.{AreSurvivors, ends_of}
 use Rattle.osm_segments.specs.Pairs.{conflicts_of}
-use Rattle.coast_join.specs.Joined.{south_east, south_west}
-use Rattle.coast_join.specs.Line.{origin}
+use Rattle.coast_rings.specs.Corners.{south_east, south_west}
+use Rattle.coast_rings.specs.Line.{origin}
 use Rattle.coast_sides.specs.Land.{HaveNoConflicts}
 use Rattle.coast_sides.specs.Water.{AreSides, IsSide, Meets, is_east, is_north, is_south, is_west, north_east, north_west, pieces}
 use Rattle.coast_sides.proofs.ClearSides.{IsBorder, clear_east, clear_north, clear_south, clear_west, east_border, none_between, north_border, on_line, piece_of, south_border, west_border}

@@ -19,7 +19,7 @@ use Rattle.lists.proofs.ListsKit.{equal_from, first_member, later_member, member
 use Rattle.osm_segments.specs.Counts.{AreDistinct}
 use Rattle.osm_segments.specs.Pairs.{conflicts_of, pair_of}
 use Rattle.osm_segments.specs.declared.pairs.Pair.{Pair}
-use Rattle.coast_join.specs.declared.ring.CoastRing.{CoastRing}
+use Rattle.coast_rings.specs.declared.ring.CoastRing.{CoastRing}
 use Rattle.coast_sides.specs.declared.cut.Cut.{Cut}
 use Rattle.coast_sides.specs.ChoiceSteps.{are_paired, is_same_segment}
 use Rattle.coast_sides.specs.Land.{HaveNoConflicts}

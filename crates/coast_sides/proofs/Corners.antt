@@ -16,7 +16,7 @@ use Rattle.osm_lattice.specs.declared.seg.Seg.{Seg}
 use Rattle.osm_lattice.specs.Loc.{loc_cmp, vector_of}
 use Rattle.osm_lattice.specs.OrderLaws.{LocationOrderIsPointOrder}
 use Rattle.osm_lattice.specs.Seg.{edge_of}
-use Rattle.coast_join.specs.Joined.{south_east, south_west}
+use Rattle.coast_rings.specs.Corners.{south_east, south_west}
 use Rattle.coast_sides.specs.Water.{north_east, north_west}
 use Rattle.coast_sides.proofs.ClearSides.{plus_less, within_abs}
 

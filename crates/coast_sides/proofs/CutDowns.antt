@@ -8,9 +8,9 @@ use Rattle.std.proofs.lemmas.List.Elements.{All-contains, Contains-append_cases,
 use Rattle.std.proofs.lemmas.List.Kept.{AllPairs-cons}
 use Rattle.osm_lattice.specs.declared.loc.Loc.{Loc}
 use Rattle.osm_lattice.specs.OrderLaws.{LocationOrderTellsApart}
-use Rattle.coast_join.specs.declared.ring.CoastRing.{CoastRing}
-use Rattle.coast_join.specs.Round.{IsRound}
-use Rattle.coast_join.proofs.JoinKit.{ring_from_fields, round_left}
+use Rattle.coast_rings.specs.declared.ring.CoastRing.{CoastRing}
+use Rattle.coast_rings.specs.Round.{IsRound}
+use Rattle.coast_rings.proofs.RingsKit.{ring_from_fields, round_left}
 use Rattle.coast_sides.specs.declared.cut.Cut.{Cut}
 use Rattle.coast_sides.specs.CutSorting.{NamesOfRingsRise, RoundsEnd}
 use Rattle.coast_sides.specs.Rounds.{AreCutDown, AreRounds, IsLeft, conflicts_itself, round_cuts}

@@ -15,8 +15,8 @@ use Rattle.osm_segments.specs.Pairs.{conflicts_of}
 use Rattle.osm_segments.specs.Places.{AreConflictPlaces, pair_at}
 use Rattle.osm_segments.specs.declared.pairs.Pair.{Pair}
 use Rattle.osm_segments.specs.declared.places.Places.{Places}
-use Rattle.coast_join.specs.Round.{IsRound}
-use Rattle.coast_join.specs.declared.ring.CoastRing.{CoastRing}
+use Rattle.coast_rings.specs.Round.{IsRound}
+use Rattle.coast_rings.specs.declared.ring.CoastRing.{CoastRing}
 use Rattle.coast_sides.specs.CutSteps.{AreCrossed, IsCutLine, IsCutRing, IsFoundBy, IsLeftBehind, IsShortened}
 use Rattle.coast_sides.specs.Rounds.{AreCutDown, AreRounds, conflicts_itself, round_cuts}
 use Rattle.coast_sides.specs.Segments.{all_segments, segments_round}

@@ -15,7 +15,7 @@ use Rattle.osm_lattice.specs.Seg.{seg_cmp, segment_between, segment_by}
 use Rattle.lists.specs.Rising.{IsRising, count_of}
 use Rattle.osm_segments.specs.Counts.{AreSurvivors, ends_of}
 use Rattle.osm_segments.specs.Counts.{HasEvenNodes}
-use Rattle.coast_join.specs.declared.ring.CoastRing.{CoastRing}
+use Rattle.coast_rings.specs.declared.ring.CoastRing.{CoastRing}
 use Rattle.coast_sides.specs.Segments.{all_segments, segments_round, steps_round}
 use Rattle.coast_sides.proofs.Cancelling.{odd_parity}
 

@@ -16,7 +16,7 @@ use Rattle.osm_lattice.specs.declared.seg.Seg.{Seg}
 use Rattle.osm_lattice.specs.Conflict.{conflict_of}
 use Rattle.osm_lattice.specs.ConflictLaws.{ConflictIsSymmetric}
 use Rattle.lists.proofs.ListsKit.{equal_from}
-use Rattle.coast_join.specs.declared.ring.CoastRing.{CoastRing}
+use Rattle.coast_rings.specs.declared.ring.CoastRing.{CoastRing}
 use Rattle.coast_sides.specs.Choice.{AreChosen, KeepsUnbeaten, is_beaten, outranks, rings_conflict}
 use Rattle.coast_sides.specs.ChoiceSteps.{AreBlocked, AreByRank, is_free, rings_at}
 use Rattle.coast_sides.specs.CutSorting.{NamesOfRingsRise}

@@ -11,7 +11,7 @@ use Rattle.osm_lattice.specs.declared.loc.Loc.{Loc}
 use Rattle.coast_sides.specs.Shortcuts.{first_left, remaining, run_at, run_from, runs}
 use Rattle.coast_sides.specs.ShortcutSteps.{cuts_of, place_after, places_left, run_to}
 use Rattle.coast_sides.specs.declared.cut.Cut.{Cut}
-use Rattle.coast_join.specs.Line.{origin}
+use Rattle.coast_rings.specs.Line.{origin}
 use Rattle.coast_sides.proofs.ListSteps.{given_step, named_step}
 use Rattle.std.proofs.lemmas.List.FromFn.{get_or-enumerate_from, length-enumerate_from}
 

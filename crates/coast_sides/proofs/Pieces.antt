@@ -10,8 +10,8 @@ use Rattle.osm_lattice.specs.Loc.{loc_cmp}
 use Rattle.osm_lattice.specs.Seg.{segment_between, segment_by}
 use Rattle.osm_lattice.proofs.LatticeKit.{seg_from_ends}
 use Rattle.lists.specs.Rising.{IsRising, count_of}
-use Rattle.coast_join.specs.Line.{last_location}
-use Rattle.coast_join.proofs.JoinKit.{last_cons}
+use Rattle.coast_rings.specs.Line.{last_location}
+use Rattle.coast_rings.proofs.RingsKit.{last_cons}
 use Rattle.coast_sides.specs.Water.{pieces}
 use Rattle.coast_sides.proofs.EvenRings.{ends_at, one}
 

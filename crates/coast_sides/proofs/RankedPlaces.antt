@@ -11,7 +11,7 @@ use Rattle.std.proofs.lemmas.List.Kept.{AllPairs-cons}
 use Rattle.std.proofs.lemmas.Option.{get_or_from_slice_get, slice_get_within}
 use Rattle.lists.specs.Rising.{IsRising, count_of}
 use Rattle.lists.proofs.ListsKit.{count_some, count_stands}
-use Rattle.coast_join.specs.declared.ring.CoastRing.{CoastRing}
+use Rattle.coast_rings.specs.declared.ring.CoastRing.{CoastRing}
 use Rattle.coast_sides.specs.declared.ranking.Rank.{Rank}
 use Rattle.coast_sides.specs.Choice.{outranks}
 use Rattle.coast_sides.specs.ChoiceSteps.{AreByRank, ring_rank, rings_at}

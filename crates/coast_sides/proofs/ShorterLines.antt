@@ -11,8 +11,8 @@ use Rattle.osm_lattice.specs.ConflictLaws.{ConflictIsSymmetric}
 use Rattle.osm_lattice.specs.Seg.{segment_between}
 use Rattle.osm_lattice.specs.declared.loc.Loc.{Loc}
 use Rattle.osm_lattice.specs.declared.seg.Seg.{Seg}
-use Rattle.coast_join.proofs.JoinKit.{once_round_short}
-use Rattle.coast_join.specs.Line.{origin}
+use Rattle.coast_rings.proofs.RingsKit.{once_round_short}
+use Rattle.coast_rings.specs.Line.{origin}
 use Rattle.coast_sides.specs.CutSorting.{RoundsEnd}
 use Rattle.coast_sides.specs.Rounds.{AreRounds, conflicts_itself}
 use Rattle.coast_sides.specs.Segments.{segments_round, steps_round}

@@ -13,8 +13,8 @@ use Rattle.osm_lattice.specs.Loc.{loc_cmp}
 use Rattle.osm_lattice.specs.OrderLaws.{LocationOrderTellsApart}
 use Rattle.lists.specs.Rising.{IsRising, count_of}
 use Rattle.osm_segments.specs.Counts.{ends_of}
-use Rattle.coast_join.specs.Joined.{south_east, south_west}
-use Rattle.coast_join.specs.Line.{first_location, last_location, origin}
+use Rattle.coast_rings.specs.Corners.{south_east, south_west}
+use Rattle.coast_rings.specs.Line.{first_location, last_location, origin}
 use Rattle.coast_sides.specs.Water.{IsSide, north_east, north_west}
 use Rattle.coast_sides.specs.declared.side_nodes.WorldSide.{WorldSide}
 use Rattle.coast_sides.specs.declared.side_nodes.WorldSide.TheVariants.{East, North, South, West}

@@ -24,8 +24,8 @@ use Rattle.lists.specs.Rising.{count_of}
 use Rattle.osm_segments.specs.Counts.{AreSurvivors}
 use Rattle.osm_segments.specs.Counts.{HasEvenNodes}
 use Rattle.osm_sides.specs.Survivors.{plane_edges_of}
-use Rattle.coast_join.specs.Joined.{south_east, south_west}
-use Rattle.coast_join.specs.Line.{last_location}
+use Rattle.coast_rings.specs.Corners.{south_east, south_west}
+use Rattle.coast_rings.specs.Line.{last_location}
 use Rattle.coast_sides.specs.Water.{AreSides, IsInsideWorld, IsSide, is_east, is_north, is_south, is_west, north_east, north_west, pieces}
 use Rattle.coast_sides.proofs.Cancelling.{odd_parity}
 use Rattle.coast_sides.proofs.EvenRings.{ends_are, ends_at, one, seg_cmp_total, survivors_even}

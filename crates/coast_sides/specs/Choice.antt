@@ -1,7 +1,7 @@
 -- Which of some rings are kept: long ones before short ones.
 use Rattle.std.specs.Prelude.{◌≡◌, ◌&&◌, ◌||◌, Bool, not, List, Contains, filter, length, nat_eq, nat_lt, int_lt}
 use Rattle.std.specs.List.{list_any}
-use Rattle.coast_join.specs.declared.ring.CoastRing.{CoastRing}
+use Rattle.coast_rings.specs.declared.ring.CoastRing.{CoastRing}
 use Rattle.coast_sides.specs.Segments.{segments_round}
 use Rattle.coast_sides.specs.Sorting.{conflicts_with}
 

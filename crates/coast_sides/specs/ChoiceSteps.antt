@@ -8,7 +8,7 @@ use Rattle.osm_lattice.specs.declared.seg.Seg.{Seg}
 use Rattle.osm_lattice.specs.Conflict.{conflict_of}
 use Rattle.osm_lattice.specs.Seg.{seg_cmp}
 use Rattle.osm_segments.specs.declared.pairs.Pair.{Pair}
-use Rattle.coast_join.specs.declared.ring.CoastRing.{CoastRing}
+use Rattle.coast_rings.specs.declared.ring.CoastRing.{CoastRing}
 use Rattle.coast_sides.specs.declared.ranking.Rank.{Rank}
 use Rattle.coast_sides.specs.Choice.{outranks}
 use Rattle.coast_sides.specs.Segments.{segments_round}

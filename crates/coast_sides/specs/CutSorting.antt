@@ -3,7 +3,7 @@ use Rattle.std.specs.Prelude.{◌≡◌, ◌↔◌, ◌≤◌, Bool, true, false
 use Rattle.std.specs.Ordering.{int_cmp, on}
 use Rattle.lists.specs.Rising.{IsRising}
 use Rattle.osm_lattice.specs.declared.loc.Loc.{Loc}
-use Rattle.coast_join.specs.declared.ring.CoastRing.{CoastRing}
+use Rattle.coast_rings.specs.declared.ring.CoastRing.{CoastRing}
 use Rattle.coast_sides.specs.declared.sorted.Sorted.{Sorted}
 use Rattle.coast_sides.specs.Choice.{AreChosen, outranks, rings_conflict}
 use Rattle.coast_sides.specs.Land.{HaveNoConflicts}

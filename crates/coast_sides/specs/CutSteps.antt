@@ -4,8 +4,8 @@ use Rattle.std.specs.List.{flat_map, list_any}
 use Rattle.osm_lattice.specs.declared.loc.Loc.{Loc}
 use Rattle.osm_lattice.specs.declared.seg.Seg.{Seg}
 use Rattle.osm_segments.specs.declared.pairs.Pair.{Pair}
-use Rattle.coast_join.specs.declared.ring.CoastRing.{CoastRing}
-use Rattle.coast_join.specs.Round.{IsRound}
+use Rattle.coast_rings.specs.declared.ring.CoastRing.{CoastRing}
+use Rattle.coast_rings.specs.Round.{IsRound}
 use Rattle.coast_sides.specs.declared.cut.Cut.{Cut}
 use Rattle.coast_sides.specs.Rounds.{AreRounds, IsLeft, conflicts_itself, round_cuts}
 use Rattle.coast_sides.specs.Segments.{all_segments, segments_round}

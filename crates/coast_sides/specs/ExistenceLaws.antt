@@ -3,7 +3,7 @@ use Rattle.std.specs.Prelude.{◌≡◌, All, Bool, List, true}
 use Rattle.osm_geom.specs.declared.edge.Edge.{Edge}
 use Rattle.osm_geom.specs.WholeSegment.{IsWholeSegment}
 use Rattle.osm_geom.specs.InPlane.Sided.{IsSided}
-use Rattle.coast_join.specs.declared.ring.CoastRing.{CoastRing}
+use Rattle.coast_rings.specs.declared.ring.CoastRing.{CoastRing}
 use Rattle.coast_sides.specs.declared.land_parts.Land.{Land}
 use Rattle.coast_sides.specs.declared.sorted.Sorted.{Sorted}
 use Rattle.coast_sides.specs.CutSorting.{IsSortedWith, NamesOfRingsRise}

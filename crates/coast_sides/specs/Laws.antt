@@ -3,7 +3,7 @@ use Rattle.std.specs.Prelude.{List}
 use Rattle.osm_lattice.specs.declared.seg.Seg.{Seg}
 use Rattle.osm_segments.specs.Counts.{AreSurvivors}
 use Rattle.osm_segments.specs.Counts.{HasEvenNodes}
-use Rattle.coast_join.specs.declared.ring.CoastRing.{CoastRing}
+use Rattle.coast_rings.specs.declared.ring.CoastRing.{CoastRing}
 use Rattle.coast_sides.specs.Segments.{all_segments}
 
 -- what is left of the segments of rings is even at each location

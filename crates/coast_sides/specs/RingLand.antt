@@ -1,7 +1,7 @@
 -- Land of rings, with what is told of it.
 use Rattle.std.specs.Prelude.{◌≡◌, List, filter, map}
 use Rattle.osm_segments.specs.Repeats.{AreRepeats}
-use Rattle.coast_join.specs.declared.ring.CoastRing.{CoastRing}
+use Rattle.coast_rings.specs.declared.ring.CoastRing.{CoastRing}
 use Rattle.coast_sides.specs.declared.land_parts.Land.{Land}
 use Rattle.coast_sides.specs.Land.{IsLand}
 use Rattle.coast_sides.specs.Segments.{all_segments}

@@ -2,7 +2,7 @@
 use Rattle.std.specs.Prelude.{◌≡◌, ◌⊎◌, ◌<◌, ◌++◌, ◌∷◌, [], ℤ, Bool, true, false, List, map, length}
 use Rattle.std.specs.List.{flat_map, list_any}
 use Rattle.osm_lattice.specs.declared.loc.Loc.{Loc}
-use Rattle.coast_join.specs.declared.ring.CoastRing.{CoastRing}
+use Rattle.coast_rings.specs.declared.ring.CoastRing.{CoastRing}
 use Rattle.coast_sides.specs.declared.cut.Cut.{Cut}
 use Rattle.coast_sides.specs.Segments.{segments_round}
 use Rattle.coast_sides.specs.Shortcuts.{marked, runs, shortened}

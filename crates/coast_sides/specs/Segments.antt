@@ -5,7 +5,7 @@ use Rattle.osm_lattice.specs.declared.loc.Loc.{Loc}
 use Rattle.osm_lattice.specs.declared.seg.Seg.{Seg}
 use Rattle.lists.specs.Rising.{count_of}
 use Rattle.osm_lattice.specs.Seg.{seg_cmp, segment_between}
-use Rattle.coast_join.specs.declared.ring.CoastRing.{CoastRing}
+use Rattle.coast_rings.specs.declared.ring.CoastRing.{CoastRing}
 
 -- the steps of a closed line: from each location to the next, and from the last to the first
 abbrev pub steps_round : List Loc → List (Loc × Loc)

@@ -5,7 +5,7 @@ use Rattle.osm_lattice.specs.declared.loc.Loc.{Loc}
 use Rattle.osm_lattice.specs.declared.seg.Seg.{Seg}
 use Rattle.osm_lattice.specs.Conflict.{conflict_of}
 use Rattle.osm_lattice.specs.Seg.{segment_between}
-use Rattle.coast_join.specs.Round.{once_round}
+use Rattle.coast_rings.specs.Round.{once_round}
 use Rattle.coast_sides.specs.Segments.{steps_round}
 
 -- ---- what is cut out of a closed line

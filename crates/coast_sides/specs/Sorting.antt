@@ -8,7 +8,7 @@ use Rattle.osm_lattice.specs.Seg.{seg_cmp}
 use Rattle.osm_segments.specs.declared.pairs.Pair.{Pair}
 use Rattle.osm_segments.specs.Counts.{AreDistinct}
 use Rattle.osm_segments.specs.Pairs.{conflicts_of}
-use Rattle.coast_join.specs.declared.ring.CoastRing.{CoastRing}
+use Rattle.coast_rings.specs.declared.ring.CoastRing.{CoastRing}
 use Rattle.coast_sides.specs.declared.sorted.Sorted.{Sorted}
 use Rattle.coast_sides.specs.Segments.{all_segments, segments_round}
 

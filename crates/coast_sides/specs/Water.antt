@@ -22,8 +22,8 @@ use Rattle.osm_sides.specs.Directions.{AreDirected}
 use Rattle.osm_segments.specs.Counts.{HasEvenNodes}
 use Rattle.osm_sides.specs.Survivors.{plane_edges_of}
 use Rattle.osm_geom.specs.InPlane.Sided.{IsSided, signed_count_at}
-use Rattle.coast_join.specs.Joined.{south_east, south_west}
-use Rattle.coast_join.specs.Line.{first_location, last_location}
+use Rattle.coast_rings.specs.Corners.{south_east, south_west}
+use Rattle.coast_rings.specs.Line.{first_location, last_location}
 use Rattle.osm_segments.specs.Pairs.{conflicts_of}
 use Rattle.coast_sides.specs.Land.{HaveNoConflicts, IsLand, parity_at}
 

@@ -1,7 +1,7 @@
 -- The sides of the world by name.
 use Rattle.std.specs.Prelude.{Bool}
 use Rattle.osm_lattice.specs.declared.loc.Loc.{Loc}
-use Rattle.coast_join.specs.Joined.{south_east, south_west}
+use Rattle.coast_rings.specs.Corners.{south_east, south_west}
 use Rattle.coast_sides.specs.declared.side_nodes.WorldSide.{WorldSide}
 use Rattle.coast_sides.specs.declared.side_nodes.WorldSide.TheVariants.{East, North, South, West}
 use Rattle.coast_sides.specs.Water.{is_east, is_north, is_south, is_west, north_east, north_west}

@@ -9,7 +9,7 @@ use Rattle.osm_lattice.specs.Loc.{loc_cmp}
 use Rattle.osm_geom.specs.declared.edge.Edge.{Edge}
 use Rattle.osm_geom.specs.declared.point.Point.{Point}
 use Rattle.osm_geom.specs.declared.point.Point.TheVariants.{Lattice, OnHorizontal, OnVertical}
-use Rattle.coast_join.specs.declared.ring.CoastRing.{CoastRing}
+use Rattle.coast_rings.specs.declared.ring.CoastRing.{CoastRing}
 use Rattle.coast_sides.specs.declared.wrong_ways.Step.{Step}
 use Rattle.coast_sides.specs.declared.wrong_ways.Steps.{Steps}
 use Rattle.coast_sides.specs.Segments.{steps_round}

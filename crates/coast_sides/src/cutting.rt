@@ -12,7 +12,7 @@ use crate::conflicting::{distinct_conflicts, segments_of};
 use crate::ring_segments::all_segments;
 use crate::rounds::{CutDown, cut_down};
 use crate::sorted::{Pairs, Sorted};
-use coast_join::CoastRing;
+use coast_rings::CoastRing;
 use osm_geom::{Segs, conflicts_are_symmetric, orders_are_exact};
 use osm_segments::Pair;
 use std::alloc::{AllocError as OutOfMemory, Global};

@@ -5,7 +5,7 @@ ghost use Rattle.std.specs.List.{enumerate_from};
 ghost use Rattle.coast_sides.specs.ChoiceSteps.{AreByRank, ring_rank};
 ghost use Rattle.coast_sides.specs.CutSorting.{NamesOfRingsRise};
 
-use coast_join::CoastRing;
+use coast_rings::CoastRing;
 use lists::distinct_items;
 use std::alloc::{AllocError as OutOfMemory, Global};
 use std::cmp::Reverse;

@@ -3,11 +3,11 @@
 ghost use Rattle.std.specs.Prelude.{◌≡◌, ◌<◌, ◌+◌, ◌++◌, if◌then◌else◌, nat_lt, IfOk, OnOk};
 ghost use Rattle.std.specs.Option.{option_to_list};
 ghost use Rattle.osm_lattice.specs.Seg.{segment_between};
-ghost use Rattle.coast_join.specs.declared.ring.CoastRing.{CoastRing};
+ghost use Rattle.coast_rings.specs.declared.ring.CoastRing.{CoastRing};
 ghost use Rattle.coast_sides.specs.Segments.{all_segments, segments_round};
 ghost use Rattle.coast_sides.specs.Laws.{CancellingKeepsEven};
 
-use coast_join::CoastRing;
+use coast_rings::CoastRing;
 use osm_geom::{Loc, Seg, orders_are_exact};
 use std::alloc::{AllocError as OutOfMemory, Global};
 

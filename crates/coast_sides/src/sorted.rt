@@ -1,7 +1,7 @@
 //! What has become of rings that were sorted out.
 
 use crate::cut::Cuts;
-use coast_join::CoastRings;
+use coast_rings::CoastRings;
 use lists::List;
 use osm_segments::Pair;
 

@@ -13,7 +13,7 @@ use crate::cut::Cuts;
 use crate::ring_segments::all_segments;
 use crate::sorted::{Pairs, Sorted};
 use crate::taking_away::{in_order, segments_kept};
-use coast_join::{CoastRing, CoastRings};
+use coast_rings::{CoastRing, CoastRings};
 use osm_geom::{Path, Seg, Segs, conflicts_are_symmetric, orders_are_exact};
 use std::alloc::{AllocError as OutOfMemory, Global};
 use std::collections::BTreeSet;

@@ -7,7 +7,7 @@ ghost use Rattle.osm_lattice.specs.Seg.{seg_cmp};
 ghost use Rattle.coast_sides.specs.Segments.{AreRingSegments, all_segments};
 
 use crate::ring_segments::all_segments;
-use coast_join::CoastRing;
+use coast_rings::CoastRing;
 use osm_geom::{Seg, Segs, orders_are_exact};
 use std::alloc::{AllocError as OutOfMemory, Global};
 

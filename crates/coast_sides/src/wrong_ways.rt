@@ -8,7 +8,7 @@ ghost use Rattle.coast_sides.specs.WrongWays.{StepsAreInOrder, rises, runs_again
 
 use crate::ring_segments::next_round;
 use crate::sought::sought_near;
-use coast_join::CoastRing;
+use coast_rings::CoastRing;
 use osm_geom::{Edge, Ids, Loc, Point, orders_are_exact};
 use std::alloc::{AllocError as OutOfMemory, Global};
 

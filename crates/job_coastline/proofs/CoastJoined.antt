@@ -6,7 +6,7 @@ use Rattle.std.specs.List.{filter_map}
 use Rattle.coast_join.specs.Chains.{AreChains}
 use Rattle.coast_join.specs.declared.chain.Chain.{Chain}
 use Rattle.coast_join.specs.declared.input.CoastInput.{CoastInput}
-use Rattle.coast_join.specs.declared.ring.Joined.{Joined}
+use Rattle.coast_join.specs.declared.joined.Joined.{Joined}
 use Rattle.coast_sides.specs.Segments.{all_segments}
 use Rattle.coast_sides.specs.CutSorting.{IsSortedWith}
 use Rattle.coast_sides.specs.declared.sorted.Sorted.{Sorted}

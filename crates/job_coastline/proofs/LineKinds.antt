@@ -4,7 +4,7 @@ use Rattle.std.specs.List.{filter_map, flat_map, slice_get}
 use Rattle.std.proofs.lemmas.Option.{same_Some}
 use Rattle.std.proofs.lemmas.List.Elements.{All-nil, All-cons, All-append, All-map}
 use Rattle.coast_join.specs.declared.chain.Chain.{Chain}
-use Rattle.coast_join.specs.declared.ring.CoastRing.{CoastRing}
+use Rattle.coast_rings.specs.declared.ring.CoastRing.{CoastRing}
 use Rattle.coast_join.specs.declared.way.Aside.{Aside}
 use Rattle.coast_join.specs.declared.way.Aside.TheVariants.{Missing, Short}
 use Rattle.coast_sides.specs.CutSorting.{IsSortedWith}

@@ -5,7 +5,7 @@ use Rattle.osm_elements.specs.declared.object.Object.{Object}
 use Rattle.osm_objects.specs.CoastWays.{coast_ways}
 use Rattle.coast_join.specs.declared.chain.Chain.{Chain}
 use Rattle.coast_join.specs.declared.gap.Closings.{Closings}
-use Rattle.coast_join.specs.declared.ring.Joined.{Joined}
+use Rattle.coast_join.specs.declared.joined.Joined.{Joined}
 use Rattle.coast_join.specs.declared.way.Aside.{Aside}
 use Rattle.coast_join.specs.declared.way.CoastWay.{CoastWay}
 use Rattle.coast_join.specs.Chains.{AreChains, way_path_of}

@@ -10,7 +10,7 @@ use Rattle.osm_words.specs.Job.{CoastlineSettings}
 use Rattle.coast_join.specs.declared.chain.Chain.{Chain}
 use Rattle.coast_join.specs.declared.gap.Closings.{Closings}
 use Rattle.coast_join.specs.declared.input.CoastInput.{CoastInput}
-use Rattle.coast_join.specs.declared.ring.Joined.{Joined}
+use Rattle.coast_join.specs.declared.joined.Joined.{Joined}
 use Rattle.coast_join.specs.declared.way.CoastWay.{CoastWay}
 use Rattle.coast_join.specs.Chains.{AreChains, way_path_of}
 use Rattle.coast_join.specs.Closings.{AreClosings}

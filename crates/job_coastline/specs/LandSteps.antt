@@ -2,7 +2,7 @@
 use Rattle.std.specs.Prelude.{◌≡◌, ◌++◌, List, map}
 use Rattle.osm_geom.specs.declared.edge.Edge.{Edge}
 use Rattle.osm_text.specs.declared.coast.CoastLine.{CoastLine}
-use Rattle.coast_join.specs.declared.ring.CoastRing.{CoastRing}
+use Rattle.coast_rings.specs.declared.ring.CoastRing.{CoastRing}
 use Rattle.coast_sides.specs.declared.land_parts.Land.{Land}
 use Rattle.coast_sides.specs.RingLand.{IsLandOf}
 use Rattle.job_coastline.specs.Report.{repeated_line, wrong_way_line}

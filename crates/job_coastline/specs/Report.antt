@@ -8,10 +8,10 @@ use Rattle.osm_job.specs.declared.ended.Ended.TheVariants as ended
 use Rattle.osm_text.specs.Coast.{IsCoastLine, is_error}
 use Rattle.osm_text.specs.declared.coast.CoastLine.{CoastLine}
 use Rattle.osm_text.specs.declared.coast.CoastLine.TheVariants as line
-use Rattle.coast_join.specs.Line.{first_location, last_location}
+use Rattle.coast_rings.specs.Line.{first_location, last_location}
 use Rattle.coast_join.specs.declared.chain.Chain.{Chain}
 use Rattle.coast_join.specs.declared.gap.Gap.{Gap}
-use Rattle.coast_join.specs.declared.ring.CoastRing.{CoastRing}
+use Rattle.coast_rings.specs.declared.ring.CoastRing.{CoastRing}
 use Rattle.coast_join.specs.declared.way.Aside.{Aside}
 use Rattle.coast_join.specs.declared.way.Aside.TheVariants.{Missing, Short}
 use Rattle.coast_sides.specs.declared.cut.Cut.{Cut}

@@ -21,8 +21,9 @@ use crate::lines::{
     repeated_lines, unclosed_lines, wrong_way_lines,
 };
 use coast_join::{
-    Chain, Closings, CoastInput, CoastRing, Joined, chains, closed_rings, closings, coast_input,
+    Chain, Closings, CoastInput, Joined, chains, closed_rings, closings, coast_input,
 };
+use coast_rings::CoastRing;
 use coast_sides::{Land, Sorted, cut_and_sort_out, land, sort_out};
 use osm_geom::{Edges, Segs};
 use osm_objects::Store;

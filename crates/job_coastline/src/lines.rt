@@ -5,7 +5,8 @@ ghost use Rattle.std.specs.List.{filter_map, list_any};
 ghost use Rattle.job_coastline.specs.Report.{antarctica_line, aside_line, conflict_line, cut_line, ending_of, gap_line, left_out_line, repeated_line, unclosed_line, wrong_way_line};
 ghost use Rattle.osm_text.specs.Coast.{is_error};
 
-use coast_join::{Aside, Chain, CoastRing, Gap};
+use coast_join::{Aside, Chain, Gap};
+use coast_rings::CoastRing;
 use coast_sides::Cut;
 use osm_job::Ended;
 use osm_segments::{Pair, Repeat};

@@ -1,7 +1,7 @@
 //! Rings of closed ways sorted out, and land and water about them.
 
 use crate::reading::joined_of;
-use coast_join::CoastRings;
+use coast_rings::CoastRings;
 use coast_sides::{Land, Sorted, land, sort_out, water};
 use osm_geom::{Edge, Loc, Point, Seg};
 use std::alloc::{AllocError as OutOfMemory, Global};

@@ -4,7 +4,7 @@ use Rattle.osm_elements.specs.declared.object.Object.{Object}
 use Rattle.osm_job.specs.Whole.{Whole}
 use Rattle.osm_nest.specs.declared.polygon.Polygon.{Polygon}
 use Rattle.osm_words.specs.Job.{CoastlineSettings}
-use Rattle.coast_join.specs.declared.ring.CoastRing.{CoastRing}
+use Rattle.coast_rings.specs.declared.ring.CoastRing.{CoastRing}
 use Rattle.coast_sides.specs.CutSorting.{ClearRingsStay, IsSortedWith}
 use Rattle.coast_sides.specs.ExistenceLaws.{LandExists, SortedExists}
 use Rattle.coast_sides.specs.Land.{HaveNoConflicts}

@@ -9,14 +9,14 @@ use Rattle.osm_text.specs.declared.coast.CoastLine.{CoastLine}
 use Rattle.osm_words.specs.Job.{CoastlineSettings}
 use Rattle.coast_join.specs.declared.chain.Chain.{Chain}
 use Rattle.coast_join.specs.declared.gap.Closings.{Closings}
-use Rattle.coast_join.specs.declared.ring.Joined.{Joined}
+use Rattle.coast_join.specs.declared.joined.Joined.{Joined}
 use Rattle.coast_join.specs.declared.way.CoastWay.{CoastWay}
 use Rattle.coast_join.specs.ChainLaws.{ChainsAreOne}
 use Rattle.coast_join.specs.Chains.{AreChains, WayPath, line_at, way_path_of}
 use Rattle.coast_join.specs.Closings.{AreClosings}
 use Rattle.coast_join.specs.Joined.{AreJoined}
-use Rattle.coast_join.specs.Line.{IsLine}
-use Rattle.coast_join.proofs.JoinKit.{line_prop}
+use Rattle.coast_rings.specs.Line.{IsLine}
+use Rattle.coast_rings.proofs.RingsKit.{line_prop}
 use Rattle.coast_join.specs.RingLaws.{ClosingsAreOne, JoinedIsOne}
 use Rattle.coast_split.specs.HalfLaws.{LeavesAreSided, TreeIsOne}
 use Rattle.coast_split.specs.declared.leaves.Leaf.{Leaf}

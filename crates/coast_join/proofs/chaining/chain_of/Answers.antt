@@ -4,7 +4,7 @@ use Rattle.std.proofs.lemmas.Int.{to_z-of_z}
 use Rattle.std.proofs.lemmas.List.{length-map}
 use Rattle.coast_join.specs.Chains.{WayPath}
 use Rattle.coast_join.specs.ChainSteps.{ways_at, member}
-use Rattle.coast_join.specs.Line.{IsLine}
+use Rattle.coast_rings.specs.Line.{IsLine}
 use Rattle.coast_join.proofs.Joining.{line_joined, member_read, members_at, places_some}
 use Rattle.coast_join.proofs.chaining.chain_of.Goals as goal
 

@@ -8,7 +8,7 @@ use Rattle.orbits.specs.Orbits.{IsOneToOne, AreOrbits, AreOrbitsInOrder}
 use Rattle.coast_join.specs.ById.{AreById}
 use Rattle.coast_join.specs.Chains.{WayPath}
 use Rattle.coast_join.specs.ChainSteps.{member, ways_at}
-use Rattle.coast_join.specs.Line.{first_location, last_location}
+use Rattle.coast_rings.specs.Line.{first_location, last_location}
 use Rattle.coast_join.specs.Links.{AreNextWays}
 use Rattle.coast_join.proofs.Joining.{order_inside, sorted_same, sorted_rising}
 use Rattle.coast_join.proofs.Numbering.{one_to_one}

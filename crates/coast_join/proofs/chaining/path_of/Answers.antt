@@ -5,7 +5,7 @@ use Rattle.std.specs.List.{flat_map}
 use Rattle.osm_lattice.specs.declared.loc.Loc.{Loc}
 use Rattle.coast_join.specs.Chains.{WayPath, joined_path, line_at}
 use Rattle.coast_join.specs.ChainSteps.{ways_at, member}
-use Rattle.coast_join.specs.Line.{front_of, last_location}
+use Rattle.coast_rings.specs.Line.{front_of, last_location}
 use Rattle.coast_join.proofs.Joining.{joined_closed, joined_open, member_read, members_at}
 use Rattle.coast_join.proofs.chaining.path_of.Goals as goal
 

@@ -2,7 +2,7 @@
 use Rattle.std.proofs.Common.{◌++◌, ◌∷◌, [], ap, ◌∙◌}
 use Rattle.osm_lattice.specs.declared.loc.Loc.{Loc}
 use Rattle.coast_join.specs.Chains.{WayPath}
-use Rattle.coast_join.specs.Line.{first_location}
+use Rattle.coast_rings.specs.Line.{first_location}
 use Rattle.coast_join.proofs.OneMoreWay.{way_more}
 use Rattle.coast_join.proofs.chaining.starts.Goals as goal
 

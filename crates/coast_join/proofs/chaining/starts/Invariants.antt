@@ -1,7 +1,7 @@
 use Rattle.std.proofs.Common.{◌≡◌, map, take}
 use Rattle.coast_join.specs.Chains.{WayPath}
 use Rattle.coast_join.specs.ChainSteps.{ways_at}
-use Rattle.coast_join.specs.Line.{first_location}
+use Rattle.coast_rings.specs.Line.{first_location}
 use Rattle.coast_join.proofs.chaining.starts.Given as goal
 
 abbrev pub invariant-loop-place : goal.invariant-loop-place

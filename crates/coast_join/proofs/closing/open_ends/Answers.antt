@@ -4,7 +4,7 @@ use Rattle.osm_lattice.specs.declared.loc.Loc.{Loc}
 use Rattle.coast_join.specs.declared.chain.Chain.{Chain}
 use Rattle.coast_join.specs.declared.closing.OpenEnds.{OpenEnds}
 use Rattle.coast_join.specs.Closings.{open_ends_at}
-use Rattle.coast_join.specs.Line.{first_location, last_location}
+use Rattle.coast_rings.specs.Line.{first_location, last_location}
 use Rattle.coast_join.proofs.Stepping.{tested_some, tested_none}
 use Rattle.coast_join.proofs.closing.open_ends.Goals as goal
 use Rattle.coast_join.proofs.closing.open_ends.Goals.{then-is_open+in_ok-push, else-is_open}

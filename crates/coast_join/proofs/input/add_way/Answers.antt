@@ -8,10 +8,10 @@ use Rattle.coast_join.specs.declared.way.Aside.{Aside}
 use Rattle.coast_join.specs.declared.way.Aside.TheVariants.{Missing}
 use Rattle.coast_join.specs.Chains.{WayPath, way_path_of}
 use Rattle.coast_join.specs.Input.{asides_by, line_along, lines_by}
-use Rattle.coast_join.specs.Line.{NeighboursDiffer}
-use Rattle.coast_join.specs.Round.{once}
+use Rattle.coast_rings.specs.Line.{NeighboursDiffer}
+use Rattle.coast_rings.specs.Round.{once}
 use Rattle.coast_join.proofs.LocatedRefs.{all_missing, no_line, short_line, whole_line}
-use Rattle.coast_join.proofs.Rounding.{once_differs}
+use Rattle.coast_rings.proofs.RingsKit.{once_differs}
 use Rattle.coast_join.proofs.input.add_way.Goals as goal
 
 pub add_line-requires : goal.add_line-requires

@@ -1,7 +1,7 @@
 -- The key of each call is the ring's name.
 use Rattle.std.proofs.Common.{◌≡◌, rules}
 use Rattle.std.proofs.lemmas.List.Sorted.{answers_always}
-use Rattle.coast_join.specs.declared.ring.CoastRing.{CoastRing}
+use Rattle.coast_rings.specs.declared.ring.CoastRing.{CoastRing}
 use Rattle.coast_join.proofs.regained.by_name.Goals as goal
 
 pub returns-clause-by_name : goal.returns-clause-by_name

@@ -3,7 +3,7 @@ use Rattle.std.proofs.Common.{◌≡◌, ◌≢◌, ◌<◌, ℕ, All, AllPairs,
 use Rattle.orbits.specs.Orbits.{IsOneToOne, AreOrbits, AreOrbitsInOrder}
 use Rattle.std.specs.List.{AllZip}
 use Rattle.coast_join.specs.declared.chain.Chain.{Chain}
-use Rattle.coast_join.specs.declared.ring.CoastRing.{CoastRing}
+use Rattle.coast_rings.specs.declared.ring.CoastRing.{CoastRing}
 use Rattle.coast_join.specs.declared.gap.Gap.{Gap}
 use Rattle.coast_join.specs.declared.gap.Closings.{Closings}
 use Rattle.coast_join.specs.declared.way.CoastWay.{CoastWay}

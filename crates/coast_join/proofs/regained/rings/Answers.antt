@@ -1,7 +1,7 @@
 -- One more orbit.
 use Rattle.std.proofs.Common.{◌≡◌, ◌<◌, ℕ, All, List, length, map, sym, ap, subst, ◌∙◌, arith}
 use Rattle.std.proofs.lemmas.List.{length-map}
-use Rattle.coast_join.specs.declared.ring.CoastRing.{CoastRing}
+use Rattle.coast_rings.specs.declared.ring.CoastRing.{CoastRing}
 use Rattle.coast_join.specs.Joined.{IsCoastRing, chains_at, is_closed_orbit}
 use Rattle.coast_join.specs.JoinSteps.{AreParts}
 use Rattle.coast_join.proofs.Joining.{list_at, list_is, zip_kept, zip_passed}

@@ -2,11 +2,11 @@
 use Rattle.std.proofs.Common.{◌≡◌, ◌++◌, List, ap, sym, subst, ◌∙◌}
 use Rattle.osm_lattice.specs.declared.loc.Loc.{Loc}
 use Rattle.coast_join.specs.Joined.{chains_at, corners, locations_along}
-use Rattle.coast_join.specs.Line.{IsLine}
-use Rattle.coast_join.specs.Round.{IsRound, once}
+use Rattle.coast_rings.specs.Line.{IsLine}
+use Rattle.coast_rings.specs.Round.{IsRound, once}
 use Rattle.coast_join.proofs.Following.{line_of_chains}
 use Rattle.coast_join.proofs.Parts.{parts_round}
-use Rattle.coast_join.proofs.Rounding.{round_from}
+use Rattle.coast_rings.proofs.RingsKit.{round_from}
 use Rattle.coast_join.proofs.ring_making.ring_path.Goals as goal
 
 pub returns-then-not-any_antarctic-clause-round : goal.returns-then-not-any_antarctic-clause-round

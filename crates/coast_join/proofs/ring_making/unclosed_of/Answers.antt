@@ -1,7 +1,7 @@
 -- The chain has a way, and its path is a line.
 use Rattle.std.proofs.Common.{◌≡◌, length, ap, sym, subst, ◌∙◌, arith, rules}
 use Rattle.coast_join.specs.Joined.{chains_at, locations_along}
-use Rattle.coast_join.specs.Line.{IsLine}
+use Rattle.coast_rings.specs.Line.{IsLine}
 use Rattle.coast_join.proofs.Following.{ways_some}
 use Rattle.coast_join.proofs.Parts.{parts_round}
 use Rattle.coast_join.proofs.ring_making.unclosed_of.Goals as goal

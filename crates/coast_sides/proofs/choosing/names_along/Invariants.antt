@@ -2,7 +2,7 @@ use Rattle.std.proofs.Common.{Bool, take}
 use Rattle.std.specs.BTreeSet.{contains}
 use Rattle.std.specs.Ordering.{int_cmp}
 use Rattle.osm_lattice.specs.Seg.{seg_cmp}
-use Rattle.coast_join.specs.declared.ring.CoastRing.{CoastRing}
+use Rattle.coast_rings.specs.declared.ring.CoastRing.{CoastRing}
 use Rattle.coast_sides.specs.Choice.{KeepsUnbeaten}
 use Rattle.coast_sides.specs.ChoiceSteps.{knows, rings_at}
 use Rattle.coast_sides.proofs.KeptRings.{AreHeld}

@@ -2,7 +2,7 @@
 use Rattle.std.proofs.Common.{Bool, ◌++◌, ◌∷◌, [], if◌then◌else◌, ap, ◌∙◌}
 use Rattle.std.specs.BTreeSet.{contains}
 use Rattle.std.specs.Ordering.{int_cmp}
-use Rattle.coast_join.specs.declared.ring.CoastRing.{CoastRing}
+use Rattle.coast_rings.specs.declared.ring.CoastRing.{CoastRing}
 use Rattle.coast_sides.proofs.ListSteps.{kept_step, left_step}
 use Rattle.coast_sides.proofs.choosing.parted_by_name.Goals as goal
 

@@ -1,6 +1,6 @@
 -- What is left has names that rise and no conflicts of its own, and of it the kept rings are chosen.
 use Rattle.std.proofs.Common.{List, subst, sym}
-use Rattle.coast_join.specs.declared.ring.CoastRing.{CoastRing}
+use Rattle.coast_rings.specs.declared.ring.CoastRing.{CoastRing}
 use Rattle.coast_sides.specs.Choice.{AreChosen}
 use Rattle.coast_sides.specs.CutSorting.{NamesOfRingsRise}
 use Rattle.coast_sides.specs.Segments.{all_segments}

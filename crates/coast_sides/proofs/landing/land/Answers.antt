@@ -3,7 +3,7 @@ use Rattle.std.proofs.Common.{List, ap, filter, map, subst, sym, ◌∙◌}
 use Rattle.osm_geom.specs.declared.edge.Edge.{Edge}
 use Rattle.osm_segments.specs.Repeats.{AreRepeats}
 use Rattle.osm_segments.specs.declared.counts.Repeat.{Repeat}
-use Rattle.coast_join.specs.declared.ring.CoastRing.{CoastRing}
+use Rattle.coast_rings.specs.declared.ring.CoastRing.{CoastRing}
 use Rattle.coast_sides.specs.Segments.{all_segments}
 use Rattle.coast_sides.specs.WrongWays.{runs_against}
 use Rattle.coast_sides.proofs.Clearing.{clear_left, none_conflict}

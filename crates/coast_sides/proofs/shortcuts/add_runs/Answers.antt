@@ -2,7 +2,7 @@
 use Rattle.std.proofs.Common.{◌≡◌, Bool, false, ap, ◌∙◌, ◌++◌, of_z, rules, to_z, w64, ℤ}
 use Rattle.std.proofs.lemmas.Int.{to_z-of_z}
 use Rattle.osm_lattice.specs.declared.loc.Loc.{Loc}
-use Rattle.coast_join.specs.Line.{origin}
+use Rattle.coast_rings.specs.Line.{origin}
 use Rattle.coast_sides.specs.Shortcuts.{runs}
 use Rattle.coast_sides.specs.ShortcutSteps.{cuts_of}
 use Rattle.coast_sides.proofs.LeftRuns.{left_inside, runs_all, runs_more}

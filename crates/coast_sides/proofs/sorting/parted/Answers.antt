@@ -3,7 +3,7 @@ use Rattle.std.proofs.Common.{Bool, ◌++◌, ◌∷◌, [], if◌then◌else◌
 use Rattle.std.specs.BTreeSet.{contains}
 use Rattle.std.specs.List.{list_any}
 use Rattle.osm_lattice.specs.Seg.{seg_cmp}
-use Rattle.coast_join.specs.declared.ring.CoastRing.{CoastRing}
+use Rattle.coast_rings.specs.declared.ring.CoastRing.{CoastRing}
 use Rattle.coast_sides.specs.Segments.{segments_round}
 use Rattle.coast_sides.proofs.ListSteps.{kept_step, left_step}
 use Rattle.coast_sides.proofs.sorting.parted.Goals as goal

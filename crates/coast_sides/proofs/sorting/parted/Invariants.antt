@@ -2,7 +2,7 @@ use Rattle.std.proofs.Common.{◌≡◌, filter, not, take}
 use Rattle.std.specs.BTreeSet.{contains}
 use Rattle.std.specs.List.{list_any}
 use Rattle.osm_lattice.specs.Seg.{seg_cmp}
-use Rattle.coast_join.specs.declared.ring.CoastRing.{CoastRing}
+use Rattle.coast_rings.specs.declared.ring.CoastRing.{CoastRing}
 use Rattle.coast_sides.specs.Segments.{segments_round}
 use Rattle.coast_sides.proofs.sorting.parted.Given as goal
 

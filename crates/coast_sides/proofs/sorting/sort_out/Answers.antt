@@ -5,7 +5,7 @@ use Rattle.std.specs.List.{list_any}
 use Rattle.lists.specs.Rising.{count_of}
 use Rattle.osm_lattice.specs.Seg.{seg_cmp}
 use Rattle.osm_lattice.specs.declared.seg.Seg.{Seg}
-use Rattle.coast_join.specs.declared.ring.CoastRing.{CoastRing}
+use Rattle.coast_rings.specs.declared.ring.CoastRing.{CoastRing}
 use Rattle.coast_sides.specs.Segments.{all_segments, segments_round}
 use Rattle.coast_sides.specs.Sorting.{AreConflicts}
 use Rattle.coast_sides.proofs.Conflicts.{kept_clear, sorted_are}

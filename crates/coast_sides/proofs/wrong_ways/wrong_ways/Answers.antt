@@ -3,7 +3,7 @@ use Rattle.std.proofs.Common.{Bool, ◌≡◌, filter, map, ap, ◌∙◌}
 use Rattle.std.proofs.lemmas.List.{take_all}
 use Rattle.std.specs.List.{list_any}
 use Rattle.osm_lattice.specs.declared.loc.Loc.{Loc}
-use Rattle.coast_join.specs.declared.ring.CoastRing.{CoastRing}
+use Rattle.coast_rings.specs.declared.ring.CoastRing.{CoastRing}
 use Rattle.coast_sides.specs.Segments.{steps_round}
 use Rattle.coast_sides.specs.WrongWays.{runs_against, runs_between, stands_in}
 use Rattle.coast_sides.proofs.ListSteps.{named_step}

@@ -1,7 +1,7 @@
 -- What is told of sorting, and behind it what is told of land.
 use Rattle.std.proofs.Common.{◌≡◌, ◌∙◌, ap, subst, sym, IfOk, List, ◌++◌, append_assoc, map}
 use Rattle.std.proofs.lemmas.Result.{IfOk-weaker}
-use Rattle.coast_join.specs.declared.ring.CoastRing.{CoastRing}
+use Rattle.coast_rings.specs.declared.ring.CoastRing.{CoastRing}
 use Rattle.coast_sides.specs.Segments.{AreRingSegments}
 use Rattle.coast_sides.specs.declared.sorted.Sorted.{Sorted}
 use Rattle.osm_geom.specs.declared.edge.Edge.{Edge}

@@ -4,7 +4,7 @@ use Rattle.std.specs.List.{dedup}
 use Rattle.std.specs.Ordering.{is_eq}
 use Rattle.osm_lattice.specs.declared.loc.Loc.{Loc}
 use Rattle.osm_lattice.specs.Loc.{loc_cmp}
-use Rattle.coast_join.specs.Line.{IsLine, first_location, front_of, last_location}
+use Rattle.coast_rings.specs.Line.{IsLine, first_location, front_of, last_location}
 
 -- a line that doesn't end where it starts: the step from its last location to its first closes it
 pub record IsRound (path : List Loc) : Type 0 where

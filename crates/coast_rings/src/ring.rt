@@ -1,8 +1,7 @@
 //! Rings of coastline, and lists of them.
 
-ghost use Rattle.coast_join.specs.Round.{IsRound};
+ghost use Rattle.coast_rings.specs.Round.{IsRound};
 
-use crate::chain::Chains;
 use lists::List;
 use osm_geom::Path;
 
@@ -14,13 +13,6 @@ pub struct CoastRing {
     pub name: i64,
     pub path: Path,
     pub ghost round: { IsRound path },
-}
-
-/// What becomes of the chains: the rings, and the chains that are not closed, each in order of name.
-#[derive(Debug, Drop)]
-pub struct Joined {
-    pub rings: CoastRings,
-    pub unclosed: Chains,
 }
 
 /// Rings of coastline, in order.

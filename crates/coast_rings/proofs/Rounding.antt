@@ -11,9 +11,9 @@ use Rattle.std.proofs.lemmas.Option.{same_Some, slice_get-get_or}
 use Rattle.osm_lattice.specs.declared.loc.Loc.{Loc}
 use Rattle.osm_lattice.specs.Loc.{loc_cmp}
 use Rattle.osm_lattice.specs.OrderLaws.{LocationOrderTellsApart}
-use Rattle.coast_join.specs.Line.{IsLine, NeighboursDiffer, first_location, front_of, last_location, origin}
-use Rattle.coast_join.specs.Round.{IsRound, is_same_location, once, once_round, opened}
-use Rattle.coast_join.proofs.Joining.{closed_long, front_differ, front_last, front_length}
+use Rattle.coast_rings.specs.Line.{IsLine, NeighboursDiffer, first_location, front_of, last_location, origin}
+use Rattle.coast_rings.specs.Round.{IsRound, is_same_location, once, once_round, opened}
+use Rattle.coast_rings.proofs.Lines.{closed_long, front_differ, front_last, front_length}
 use Rattle.lists.proofs.ListsKit.{equal_from}
 
 alike_from : {X : Type 0} (E F : X → X → Bool) → ((x y : X) → E x y ≡ F x y) → (k : X) (xs : List X) → dedup_from E k xs ≡ dedup_from F k xs

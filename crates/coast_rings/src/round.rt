@@ -1,7 +1,7 @@
 //! Lines without equal neighbours.
 
 ghost use Rattle.std.specs.Prelude.{◌≡◌, ◌≤◌, IfOk, length};
-ghost use Rattle.coast_join.specs.Round.{IsRound, is_same_location, once, once_round, opened};
+ghost use Rattle.coast_rings.specs.Round.{IsRound, is_same_location, once, once_round, opened};
 
 use osm_geom::{Loc, Path, orders_are_exact};
 use std::alloc::{AllocError as OutOfMemory, Global};
@@ -48,7 +48,7 @@ fn opened(locs: &[Loc]) -> &[Loc]
 }
 
 /// The line of locations with equal neighbours taken once.
-pub(crate) fn once_path(locs: Vec<Loc>) -> Path
+pub fn once_path(locs: Vec<Loc>) -> Path
     ensures { result ≡ once locs.items }
 {
     Path::from_vec(once(locs))

@@ -1,9 +1,9 @@
 -- Where two locations are left, the line is closed.
 use Rattle.std.proofs.Common.{◌≡◌, ◌≤◌, ap, length, ◌∙◌}
 use Rattle.std.proofs.lemmas.Result.{IfOk-weaker}
-use Rattle.coast_join.specs.Round.{IsRound, opened}
-use Rattle.coast_join.proofs.Rounding.{round_left}
-use Rattle.coast_join.proofs.round.round_path.Goals as goal
+use Rattle.coast_rings.specs.Round.{IsRound, opened}
+use Rattle.coast_rings.proofs.Rounding.{round_left}
+use Rattle.coast_rings.proofs.round.round_path.Goals as goal
 
 pub returns-clause-round : goal.returns-clause-round
 returns-clause-round c =

@@ -1,0 +1,4 @@
+mod Lines
+mod RingFields
+pub mod RingsKit
+mod Rounding
