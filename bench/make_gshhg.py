@@ -1,10 +1,11 @@
 #!/usr/bin/env python3
-"""The shoreline of GSHHG as OPL: make_gshhg.py [c | l | i | h | f] >coast.opl
+"""The shoreline of GSHHG as OPL: make_gshhg.py [c | l | i | h | f] [--seas] >coast.opl
 
 The resolution is crude, low, intermediate, high or full; low if none is given. Debian's gmt-gshhg-low has the first three, gmt-gshhg-high
 the next, gmt-gshhg-full the last. The script reads what `gmt coast -M` prints: shores of seas, lakes, islands in lakes and ponds on these,
-land on their left, cut along bins. Each piece becomes a way tagged natural=coastline; equal places are one node. At 180 degrees
-neighbouring ends are joined, as OpenStreetMap does.
+land on their left, cut along bins. With `--seas` it takes the shores of seas alone, which are what OpenStreetMap tags as coastline.
+Each piece becomes a way tagged natural=coastline; equal places are one node. At 180 degrees neighbouring ends are joined, as
+OpenStreetMap does.
 One lake is left out: it crosses the coast of Florida, and both commands would leave out all of America with it.
 """
 import subprocess
@@ -16,10 +17,10 @@ from collections import Counter
 CROSSING_LAKE = (-808_914_321, 290_133_516)
 
 
-def pieces(resolution):
-    """Lists of places in units of 1e-7 degree, as gmt prints them."""
+def pieces(resolution, lines):
+    """Lists of places in units of 1e-7 degree, as gmt prints them; `lines` says which, in its words."""
     printed = subprocess.run(
-        ["gmt", "coast", "-Rd", f"-D{resolution}", "-W1", "-M"],
+        ["gmt", "coast", "-Rd", f"-D{resolution}", f"-W{lines}", "-M"],
         check=True, capture_output=True, text=True, cwd=tempfile.gettempdir(),  # it leaves a file there
     ).stdout
     for text in printed.split(">")[1:]:
@@ -41,7 +42,13 @@ def along_180(ways):
 
 
 def main():
-    ways = list(pieces(sys.argv[1] if len(sys.argv) > 1 else "l"))
+    resolution, lines = "l", "1"  # all lines, in a pen of width 1
+    for word in sys.argv[1:]:
+        if word == "--seas":
+            lines = "1/1"  # those of level 1
+        else:
+            resolution = word
+    ways = list(pieces(resolution, lines))
     ways += list(along_180(ways))
     nodes = {}
     for way in ways:

@@ -4,6 +4,7 @@ mod FirstItems
 mod Fronts
 mod Joined
 mod Kept
+mod Moved
 mod Resized
 mod Searched
 mod Summed

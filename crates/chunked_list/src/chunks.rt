@@ -226,6 +226,24 @@ fn end_with_room<T: Copy>(
     Ok(end_of(chunks, starts, end.chunk, count))
 }
 
+/// Puts an item into a chunk, before the one at a place or at the end.
+// All items behind it are moved at once. `Vec::insert` moves them one by one.
+fn put_before<T: Copy>(chunk: &mut Vec<T>, place: usize, item: T) -> Result<(), OutOfMemory>
+    requires { place ≤ length chunk.old.items }
+    ensures done { OnOk result (chunk.new.items ≡ insert chunk.old.items place item) }
+    ensures kept { OnErr result (chunk.new.items ≡ chunk.old.items) }
+{
+    let end = chunk.len();
+    match chunk.push(item) {
+        Ok(()) => {
+            chunk.copy_within(place..end, place + 1);
+            chunk[place] = item;
+            Ok(())
+        }
+        Err(_) => Err(OutOfMemory),
+    }
+}
+
 /// Puts an item in before the one at a place, or at the end. It is looked for in the chunk `near` first, which becomes its chunk.
 pub(crate) fn put_in<T: Copy>(
     alloc: Global,
@@ -245,12 +263,12 @@ pub(crate) fn put_in<T: Copy>(
         ≡ flat_map (λ c. c.items) chunks.old.items) }
 {
     let end = end_with_room(alloc, chunks, starts, *near, place)?;
-    match chunks[end.chunk].insert(end.within, item) {
+    match put_before(&mut chunks[end.chunk], end.within, item) {
         Ok(()) => {
             starts.raise(end.chunk);
             *near = end.chunk;
             Ok(())
         }
-        Err(_) => Err(OutOfMemory),
+        Err(error) => Err(error),
     }
 }

@@ -61,6 +61,6 @@ run_from p (m ∷ marks) = if m.1 then option_map (λ q. (p, q)) (first_left mar
 abbrev pub run_at : List (Loc × Bool) → ℕ × (Loc × Bool) → Option (Loc × Loc)
 run_at marks m = if m.1.1 then None else run_from m.1.0 (drop (suc m.0) marks ++ take (suc m.0) marks)
 
--- each run of locations that are cut out, by the location before it and the one behind it, in order of the one before
+-- each run of locations that are cut out, by the location before it and the one behind it, in order of the one before; none if all are cut out
 abbrev pub runs : List (Loc × Bool) → List (Loc × Loc)
 runs marks = filter_map (run_at marks) (enumerate_from 0 marks)

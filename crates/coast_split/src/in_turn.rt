@@ -154,6 +154,7 @@ impl Leaves {
         ensures some { IfOk result (λ next. IfSome next (λ leaf. IsNextLeaf self.old.most_points
             self.old.overlap self.old.waiting leaf self.new.waiting)) }
         ensures none { IfOk result (λ next. IfNone next (self.old.waiting ≡ [])) }
+        ensures ended { IfOk result (λ next. IfNone next (self.new.waiting ≡ [])) }
         ensures sided { IfOk result (λ next. IfSome next (λ leaf. IsSided leaf.edges)) }
     {
         let Some(edges) = self.waiting.pop() else {

@@ -49,7 +49,7 @@ pub record IsFollowed (s t : Seg) (old new : List Seg) : Type 0 where
 abbrev pub IsNotBefore : Loc → Loc → Type 0
 IsNotBefore p q = not (is_minus (order (vector_of p) (vector_of q))) ≡ true
 
--- each upper end is after those of all earlier ones
+-- no upper end comes before that of an earlier one
 abbrev pub EndsRise : List Seg → Type 0
 EndsRise ends = (i j : ℕ) (d : Seg) → i ≤ j → j < length ends → IsNotBefore (slice_index_or ends i d).b (slice_index_or ends j d).b
 
