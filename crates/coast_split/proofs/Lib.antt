@@ -11,6 +11,7 @@ mod LeafParts
 mod LeavesLeft
 mod LineOrders
 mod LinePoints
+mod InPlace
 mod Lists
 mod MadeHalves
 mod NearPoints

@@ -1,7 +1,8 @@
 //! Halves.
-ghost use Rattle.std.specs.Prelude.{◌≡◌, ◌≢◌, ◌++◌, ◌≤◌, ◌<◌, ◌+◌, ◌^◌, [], All, IfOk, OnOk, length};
+ghost use Rattle.std.specs.Prelude.{◌≡◌, ◌≢◌, ◌++◌, ◌≤◌, ◌<◌, ◌+◌, ◌^◌, [], All, IfOk, List, OnOk, length};
 ghost use Rattle.std.specs.Ordering.{is_lt};
 ghost use Rattle.plane.specs.Sign.{is_plus};
+ghost use Rattle.osm_geom.specs.declared.edge.Edge.{Edge};
 ghost use Rattle.osm_geom.specs.Cut.{carrier_of_cut};
 ghost use Rattle.osm_lattice.specs.OrderLaws.{ordering_of};
 ghost use Rattle.osm_geom.specs.InPlane.Sided.{IsSided};
@@ -18,13 +19,28 @@ use std::cmp::Ordering;
 fn portions(alloc: Global, edges: &[Edge], cut: Cut, side: Side) -> Result<Edges, OutOfMemory>
     ensures { IfOk result (λ list. ArePortions cut side edges.now list) }
 {
-    let mut portions = Edges::new(alloc);
+    let mut portions = Edges::with_capacity(alloc, edges.len() / 2)?;
     for e in edges {
         if let Some(t) = portion(e, cut, side) {
             portions.push(t)?;
         }
     }
     Ok(portions)
+}
+
+/// The portions of the edges that have one, in the place of the edges.
+fn portions_in_place(mut edges: Vec<Edge>, cut: Cut, side: Side) -> Vec<Edge>
+    ensures { ArePortions cut side edges.items result.items }
+{
+    let mut kept = 0;
+    for place in 0..edges.len() {
+        if let Some(t) = portion(&edges[place], cut, side) {
+            edges[kept] = t;
+            kept += 1;
+        }
+    }
+    edges.truncate(kept);
+    edges
 }
 
 /// Adds a point that is on the line.
@@ -191,6 +207,17 @@ fn push_links(edges: &mut Edges, ends: &[Point], cut: Cut, side: Side) -> Result
     }
 }
 
+/// Portions of edges with the edges on the line that close them.
+fn closed(alloc: Global, portions: Edges, cut: Cut, side: Side) -> Result<Edges, OutOfMemory>
+    ensures { IfOk result (λ hs. (es : List Edge) → ArePortions cut side es portions
+        → IsHalf cut side es hs) }
+{
+    let mut half = portions;
+    let ends = sorted_ends(alloc, half.as_slice(), cut, side)?;
+    push_links(&mut half, ends.as_slice(), cut, side)?;
+    Ok(half)
+}
+
 /// The half of a list of edges on one side of a cut line.
 ///
 /// It has the portions of the list's edges on that side, and edges on the line that close them, with the side on their left.
@@ -203,8 +230,23 @@ pub fn half(alloc: Global, edges: &Edges, cut: Cut, side: Side) -> Result<Edges,
     ensures kept { IfOk result (λ hs. CountsAsKept cut side edges.now hs) }
     ensures beyond { IfOk result (λ hs. CountsNothingBeyond cut side hs) }
 {
-    let mut half = portions(alloc, edges.as_slice(), cut, side)?;
-    let ends = sorted_ends(alloc, half.as_slice(), cut, side)?;
-    push_links(&mut half, ends.as_slice(), cut, side)?;
+    let portions = portions(alloc, edges.as_slice(), cut, side)?;
+    let half = closed(alloc, portions, cut, side)?;
+    Ok(half)
+}
+
+/// What `half` gives, of a list that isn't needed afterwards: the half takes its place.
+pub(crate) fn half_in_place(
+    alloc: Global,
+    edges: Edges,
+    cut: Cut,
+    side: Side,
+) -> Result<Edges, OutOfMemory>
+    requires { IsSided edges }
+    ensures half { IfOk result (λ hs. IsHalf cut side edges hs) }
+    ensures sided { IfOk result (λ hs. IsSided hs) }
+{
+    let portions = portions_in_place(edges.into_vec(), cut, side);
+    let half = closed(alloc, Edges::from_vec(portions), cut, side)?;
     Ok(half)
 }

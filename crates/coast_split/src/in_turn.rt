@@ -1,11 +1,12 @@
 //! The leaves of a list in turn: each is cut out when it is asked for.
-ghost use Rattle.std.specs.Prelude.{◌≡◌, ◌<◌, ◌∷◌, [], All, IfNone, IfOk, IfSome, MatchOption, Some, false, reverse};
+ghost use Rattle.std.specs.Prelude.{◌≡◌, ◌<◌, ◌∷◌, [], ℕ, All, IfNone, IfOk, IfSome, List, MatchOption, Some, false, reverse};
+ghost use Rattle.osm_geom.specs.declared.edge.Edge.{Edge};
 ghost use Rattle.osm_geom.specs.InPlane.Sided.{IsSided};
 ghost use Rattle.coast_split.specs.LeavesLeft.{IsNextLeaf};
 ghost use Rattle.coast_split.specs.SplitTree.{is_split};
 ghost use Rattle.coast_split.specs.Splitting.{AreSidedHalves, HaveSameLeaves, IsCutOff, IsMiddle};
 
-use crate::halves::half;
+use crate::halves::{half, half_in_place};
 use crate::leaves::{Leaf, Settings, high_cut, is_large, low_cut, middle_of};
 use osm_geom::{Cut, Edges, Side};
 use std::alloc::{AllocError as OutOfMemory, Global};
@@ -35,22 +36,37 @@ fn halves_at(
     Ok(Halves { low, high })
 }
 
-/// Cuts a list, puts its high half among those that wait, and gives the low one.
-fn cut_off(
+/// Cuts a list that isn't needed afterwards. Its low half takes its place, so only the high one needs memory of its own.
+fn halves_of(
     alloc: Global,
-    edges: &Edges,
+    edges: Edges,
     middle: Cut,
     settings: &Settings,
-    waiting: &mut Vec<Edges>,
-) -> Result<Edges, OutOfMemory>
-    requires sided { IsSided edges.now }
-    requires cut { IsMiddle settings.now.most_points settings.now.overlap edges.now (Some middle) }
+) -> Result<Halves, OutOfMemory>
+    requires sided { IsSided edges }
+    requires cut { IsMiddle settings.now.most_points settings.now.overlap edges (Some middle) }
+    ensures { IfOk result (λ halves. AreSidedHalves settings.now.most_points settings.now.overlap
+        edges halves.low halves.high) }
+{
+    let high = half(
+        alloc,
+        &edges,
+        high_cut(middle, settings.overlap),
+        Side::High,
+    )?;
+    let low = half_in_place(alloc, edges, low_cut(middle, settings.overlap), Side::Low)?;
+    Ok(Halves { low, high })
+}
+
+/// Puts the high half of a list among those that wait, and gives the low one.
+fn let_wait(halves: Halves, waiting: &mut Vec<Edges>) -> Result<Edges, OutOfMemory>
+    requires high { IsSided halves.high }
     requires waiting { All IsSided waiting.old.items }
     ensures waiting { All IsSided waiting.new.items }
-    ensures low { IfOk result (λ low. IsCutOff settings.now.most_points settings.now.overlap
-        edges.now (reverse waiting.old.items) low (reverse waiting.new.items)) }
+    ensures low { IfOk result (λ low. (m o : ℕ) (es : List Edge)
+        → AreSidedHalves m o es halves.low halves.high
+        → IsCutOff m o es (reverse waiting.old.items) low (reverse waiting.new.items)) }
 {
-    let halves = halves_at(alloc, edges, middle, settings)?;
     waiting.push(halves.high)?;
     Ok(halves.low)
 }
@@ -71,7 +87,8 @@ fn first_leaf(
 {
     let mut edges = list;
     while let Some(middle) = middle_of(edges.as_slice(), settings) {
-        edges = cut_off(alloc, &edges, middle, settings, waiting)?;
+        let halves = halves_of(alloc, edges, middle, settings)?;
+        edges = let_wait(halves, waiting)?;
     }
     let large = is_large(edges.as_slice(), settings);
     Ok(Leaf { edges, large })
@@ -138,7 +155,7 @@ impl Leaves {
             return Ok(None);
         };
         let mut waiting = Vec::new(alloc);
-        let low = cut_off(alloc, edges, middle, settings, &mut waiting)?;
+        let low = let_wait(halves_at(alloc, edges, middle, settings)?, &mut waiting)?;
         waiting.push(low)?;
         Ok(Some(Leaves {
             alloc,

@@ -8,11 +8,12 @@ use Rattle.coast_split.proofs.in_turn.first_leaf.Goals as goal
 
 pub loop-middle-preserved : goal.loop-middle-preserved
 loop-middle-preserved c =
-    let s = c.args.settings.now in let e = c.in_ok-edges.ensures in (
-      e.waiting,
-      e.low.sided,
-      same-trans s.most_points s.overlap (c.args.list ∷ reverse c.args.waiting.now.items) (c.loop-middle.edges ∷ reverse c.loop-middle.waiting.items) (c.in_ok-edges.edges ∷ reverse c.cut_off.new.waiting.items)
-          c.loop-middle.invariant.2 e.low.same,
+    let s = c.args.settings.now in
+    let cut = c.in_ok-edges.ensures.low s.most_points s.overlap c.loop-middle.edges c.in_ok-halves.ensures in (
+      c.in_ok-edges.ensures.waiting,
+      cut.sided,
+      same-trans s.most_points s.overlap (c.args.list ∷ reverse c.args.waiting.now.items) (c.loop-middle.edges ∷ reverse c.loop-middle.waiting.items) (c.in_ok-edges.edges ∷ reverse c.let_wait.new.waiting.items)
+          c.loop-middle.invariant.2 cut.same,
     )
 
 pub returns-clause-leaf : goal.returns-clause-leaf
