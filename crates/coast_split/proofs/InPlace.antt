@@ -14,7 +14,7 @@ HaveGivenWay cut side es i kept now =
     × ((k : ℕ) (d : Edge) → i ≤ k → get_or now k d ≡ get_or es k d)
 
 module _ (cut : Cut) (side : Side) (es : List Edge) (i kept : ℕ) (now : List Edge) (so_far : HaveGivenWay cut side es i kept now) (inside : i < length es) (e : Edge) (is : e ≡ get_or now i e) where
-  its-own : e ≡ get_or es i e
+  pub its-own : e ≡ get_or es i e
   its-own = is ∙ so_far.3 i e (omega arith)
 
   pub one-gives-way : (t : Edge) → (has_portion cut side e ≡ true) × IsPortion cut side e t → HaveGivenWay cut side es (i + 1) (kept + 1) (set now kept t)

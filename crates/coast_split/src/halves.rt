@@ -4,6 +4,7 @@ ghost use Rattle.std.specs.Ordering.{is_lt};
 ghost use Rattle.plane.specs.Sign.{is_plus};
 ghost use Rattle.osm_geom.specs.declared.edge.Edge.{Edge};
 ghost use Rattle.osm_geom.specs.Cut.{carrier_of_cut};
+ghost use Rattle.osm_geom.specs.declared.cut.Side.TheVariants.{High, Low};
 ghost use Rattle.osm_lattice.specs.OrderLaws.{ordering_of};
 ghost use Rattle.osm_geom.specs.InPlane.Sided.{IsSided};
 ghost use Rattle.coast_split.specs.Half.{ArePortions, IsHalf, IsLink, line_order, runs_forward};
@@ -14,6 +15,13 @@ use crate::portion::portion;
 use osm_geom::{Axis, Carrier, Cut, Edge, Edges, Point, Side, compare_points, compare_to_cut};
 use std::alloc::{AllocError as OutOfMemory, Global};
 use std::cmp::Ordering;
+
+/// The halves of a list that is cut.
+#[derive(Drop)]
+pub(crate) struct Halves {
+    pub(crate) low: Edges,
+    pub(crate) high: Edges,
+}
 
 /// The portions of the edges that have one.
 fn portions(alloc: Global, edges: &[Edge], cut: Cut, side: Side) -> Result<Edges, OutOfMemory>
@@ -28,19 +36,34 @@ fn portions(alloc: Global, edges: &[Edge], cut: Cut, side: Side) -> Result<Edges
     Ok(portions)
 }
 
-/// The portions of the edges that have one, in the place of the edges.
-fn portions_in_place(mut edges: Vec<Edge>, cut: Cut, side: Side) -> Vec<Edge>
-    ensures { ArePortions cut side edges.items result.items }
+/// The portions of edges on both sides, each beyond a cut of its own.
+///
+/// The low ones take the place of the edges, so only the high ones need memory.
+fn portions_on_both(
+    alloc: Global,
+    mut edges: Vec<Edge>,
+    low: Cut,
+    high: Cut,
+) -> Result<Halves, OutOfMemory>
+    ensures low { IfOk result (λ both. ArePortions low Low edges.items both.low) }
+    ensures high { IfOk result (λ both. ArePortions high High edges.items both.high) }
 {
+    let mut highs = Edges::with_capacity(alloc, edges.len() / 2)?;
     let mut kept = 0;
     for place in 0..edges.len() {
-        if let Some(t) = portion(&edges[place], cut, side) {
+        if let Some(t) = portion(&edges[place], high, Side::High) {
+            highs.push(t)?;
+        }
+        if let Some(t) = portion(&edges[place], low, Side::Low) {
             edges[kept] = t;
             kept += 1;
         }
     }
     edges.truncate(kept);
-    edges
+    Ok(Halves {
+        low: Edges::from_vec(edges),
+        high: highs,
+    })
 }
 
 /// Adds a point that is on the line.
@@ -235,18 +258,19 @@ pub fn half(alloc: Global, edges: &Edges, cut: Cut, side: Side) -> Result<Edges,
     Ok(half)
 }
 
-/// What `half` gives, of a list that isn't needed afterwards: the half takes its place.
-pub(crate) fn half_in_place(
+/// Both halves of a list that isn't needed afterwards, each beyond a cut of its own. The low one takes its place.
+pub(crate) fn both_halves(
     alloc: Global,
     edges: Edges,
-    cut: Cut,
-    side: Side,
-) -> Result<Edges, OutOfMemory>
+    low: Cut,
+    high: Cut,
+) -> Result<Halves, OutOfMemory>
     requires { IsSided edges }
-    ensures half { IfOk result (λ hs. IsHalf cut side edges hs) }
-    ensures sided { IfOk result (λ hs. IsSided hs) }
+    ensures low { IfOk result (λ both. IsHalf low Low edges both.low × IsSided both.low) }
+    ensures high { IfOk result (λ both. IsHalf high High edges both.high × IsSided both.high) }
 {
-    let portions = portions_in_place(edges.into_vec(), cut, side);
-    let half = closed(alloc, Edges::from_vec(portions), cut, side)?;
-    Ok(half)
+    let portions = portions_on_both(alloc, edges.into_vec(), low, high)?;
+    let high = closed(alloc, portions.high, high, Side::High)?;
+    let low = closed(alloc, portions.low, low, Side::Low)?;
+    Ok(Halves { low, high })
 }

@@ -6,18 +6,11 @@ ghost use Rattle.coast_split.specs.LeavesLeft.{IsNextLeaf};
 ghost use Rattle.coast_split.specs.SplitTree.{is_split};
 ghost use Rattle.coast_split.specs.Splitting.{AreSidedHalves, HaveSameLeaves, IsCutOff, IsMiddle};
 
-use crate::halves::{half, half_in_place};
+use crate::halves::{Halves, both_halves, half};
 use crate::leaves::{Leaf, Settings, high_cut, is_large, low_cut, middle_of};
 use osm_geom::{Cut, Edges, Side};
 use std::alloc::{AllocError as OutOfMemory, Global};
 use std::marker::Model;
-
-/// The halves of a list that is cut.
-#[derive(Drop)]
-struct Halves {
-    low: Edges,
-    high: Edges,
-}
 
 /// Cuts a list.
 fn halves_at(
@@ -36,7 +29,7 @@ fn halves_at(
     Ok(Halves { low, high })
 }
 
-/// Cuts a list that isn't needed afterwards. Its low half takes its place, so only the high one needs memory of its own.
+/// Cuts a list that isn't needed afterwards: its low half takes its place.
 fn halves_of(
     alloc: Global,
     edges: Edges,
@@ -48,14 +41,10 @@ fn halves_of(
     ensures { IfOk result (λ halves. AreSidedHalves settings.now.most_points settings.now.overlap
         edges halves.low halves.high) }
 {
-    let high = half(
-        alloc,
-        &edges,
-        high_cut(middle, settings.overlap),
-        Side::High,
-    )?;
-    let low = half_in_place(alloc, edges, low_cut(middle, settings.overlap), Side::Low)?;
-    Ok(Halves { low, high })
+    let low = low_cut(middle, settings.overlap);
+    let high = high_cut(middle, settings.overlap);
+    let halves = both_halves(alloc, edges, low, high)?;
+    Ok(halves)
 }
 
 /// Puts the high half of a list among those that wait, and gives the low one.
