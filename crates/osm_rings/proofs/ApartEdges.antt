@@ -25,7 +25,7 @@ use Rattle.osm_geom.specs.InPlane.Sided.{IsSided}
 use Rattle.osm_geom.proofs.EdgesKit.{same_is_same}
 use Rattle.osm_rings.specs.Apart.{IsFirstLeaving, LeaveApart, LeavesFirst, NoneLeavesBefore}
 use Rattle.osm_rings.specs.Clockwise.{earlier, is_met_before}
-use Rattle.osm_rings.specs.declared.departures.Departure.{Departure}
+use Rattle.osm_rings.specs.declared.departure.Departure.{Departure}
 use Rattle.osm_rings.specs.Departures.{AreDepartures, IsDepartureOf, IsFirstMet, start_at, step_at}
 use Rattle.osm_rings.proofs.Starts.{lt, lt-itself, ranked-chain, same-some, start-at}
 use Rattle.std.proofs.lemmas.List.Elements.{All-contains}

@@ -7,7 +7,7 @@ use Rattle.std.specs.Cmp.{IsStrictWeakOrder}
 use Rattle.std.specs.List.Sorted.{IsPartitionPoint, IsPartitionedBy, IsSortedBy}
 use Rattle.std.specs.declared.cmp.Ordering.{Ordering}
 use Rattle.std.specs.declared.cmp.Ordering.TheVariants.{Less, Equal, Greater}
-use Rattle.std.specs.Ordering.{is_eq, is_lt, ordering_then}
+use Rattle.std.specs.Ordering.{is_eq, is_lt, ordering_reverse, ordering_then}
 use Rattle.std.proofs.lemmas.Bool.{cases_lt, not-false, not-true, or_parts}
 use Rattle.std.proofs.lemmas.Cmp.{on_total, then_total, tied_itself}
 use Rattle.std.proofs.lemmas.List.Elements.{All-from_get_or}
@@ -19,7 +19,7 @@ use Rattle.osm_geom.specs.Dir.{clockwise_cmp, vector_along}
 use Rattle.osm_geom.specs.Edge.{direction_of}
 use Rattle.osm_geom.specs.Point.{point_cmp}
 use Rattle.osm_geom.proofs.GeometryKit.{point_total, clockwise_total, along-direction}
-use Rattle.osm_rings.specs.declared.departures.Departure.{Departure}
+use Rattle.osm_rings.specs.declared.departure.Departure.{Departure}
 use Rattle.osm_rings.specs.Clockwise.{is_met_before}
 use Rattle.osm_rings.specs.Departures.{AreClockwise, AreClockwiseRound, AreRising, points_before, stands_before}
 use Rattle.osm_rings.proofs.Clockwise.{met-before-is}
@@ -160,3 +160,7 @@ module _ (ws : List Departure) (clockwise : AreClockwise ws) (from : Dir) where
 pub adjacent-sorted : (ws : List Departure) (r : Bool) → r ≡ true → IsAllAdjacentAnswer (λ v w b. b ≡ not (stands_before w v)) ws r → IsSortedBy stands_before ws
 adjacent-sorted ws true h told = λ k d from inside. not-true _ (sym (told k d inside))
 adjacent-sorted ws false h told = absurd (cc)
+
+-- a departure from an earlier point belongs before one from a later point
+pub told-before : (v w : Departure) → point_cmp v.edge.now.from w.edge.now.from ≡ Less → true ≡ not (stands_before w v)
+told-before v w h = sym (ap (λ o. not (is_lt o || (is_eq o && points_before w v))) (point_total.antisymm w.edge.now.from v.edge.now.from ∙ ap ordering_reverse h))

@@ -14,7 +14,7 @@ use Rattle.osm_geom.specs.InPlane.Multiple.{IsWholeAt, edge_times, point_times, 
 use Rattle.osm_geom.specs.InPlane.OneDirection.{HaveOneDirection}
 use Rattle.osm_geom.proofs.EdgesKit.{back_along, same_is_same}
 use Rattle.lists.specs.Member.{In}
-use Rattle.osm_rings.specs.declared.departures.Departure.{Departure}
+use Rattle.osm_rings.specs.declared.departure.Departure.{Departure}
 use Rattle.osm_rings.specs.Clockwise.{is_met_before}
 use Rattle.osm_rings.specs.Numbered.{edge_at}
 use Rattle.osm_rings.specs.Departures.{AreFrom, AreDepartures, IsFirstFrom, IsFirstMet, IsDepartureOf, direction_at, start_at, step_at}

@@ -15,6 +15,7 @@ mod PackedEdges
 mod Placed
 mod PlaneNumbers
 pub mod PlaneRings
+mod RankOrder
 mod RingListLifts
 mod RingLists
 mod Starts

@@ -16,7 +16,7 @@ use Rattle.osm_geom.specs.declared.point.Point.{Point}
 use Rattle.osm_geom.specs.Edge.{direction_of}
 use Rattle.osm_geom.specs.Point.{point_cmp}
 use Rattle.osm_geom.proofs.GeometryKit.{neither_less, point_total}
-use Rattle.osm_rings.specs.declared.departures.Departure.{Departure}
+use Rattle.osm_rings.specs.declared.departure.Departure.{Departure}
 use Rattle.osm_rings.specs.Departures.{AreClockwiseRound, AreDepartures, AreFrom, AreInTwoLists, AreRising, IsDepartureOf, IsEndAt, IsFirstAt, TellStarts, start_at}
 use Rattle.lists.proofs.ListsKit.{clash, not-false-out, not-true-out}
 

@@ -8,7 +8,7 @@ use Rattle.osm_geom.specs.declared.edge.Edge as geom
 use Rattle.osm_geom.specs.declared.point.Point.{Point}
 use Rattle.osm_geom.specs.Edge.{direction_of}
 use Rattle.osm_geom.specs.Point.{point_cmp}
-use Rattle.osm_rings.specs.declared.departures.Departure.{Departure}
+use Rattle.osm_rings.specs.declared.departure.Departure.{Departure}
 use Rattle.osm_rings.specs.Clockwise.{is_met_before}
 use Rattle.osm_rings.specs.Numbered.{edge_at}
 

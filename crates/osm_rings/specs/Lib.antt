@@ -7,6 +7,7 @@ pub mod Numbered
 pub mod OneList
 pub mod Packed
 pub mod Pieces
+pub mod Ranks
 pub mod Ring
 pub mod RingList
 pub mod Turned

@@ -8,23 +8,16 @@ ghost use Rattle.osm_geom.specs.Point.{point_cmp};
 ghost use Rattle.osm_rings.specs.Apart.{LeaveApart};
 ghost use Rattle.osm_rings.specs.Departures.{AreClockwiseRound, AreDepartures, AreFrom, AreInTwoLists, AreRising, IsEndAt, IsFirstAt, TellStarts, stands_before};
 
+use crate::departure::Departure;
 use crate::keys::guess_first;
 use crate::rounds::rounds;
-use osm_geom::{Dir, Edge, Point, clockwise, compare_points, order_points, sort_key};
+use osm_geom::{Dir, Edge, Point, clockwise, compare_points, order_points};
 use std::alloc::{AllocError as OutOfMemory, Global};
 use std::cmp::Ordering;
 use std::mem;
 
 /// The direction from which the departures round a point are ordered, clockwise.
 pub const EAST: Dir = Dir { dx: 1, dy: 0 };
-
-/// An edge, its place in the list, and the sort key of the point that it leaves.
-#[derive(Clone, Copy, Debug)]
-pub struct Departure<'a> {
-    pub edge: &'a Edge,
-    pub place: usize,
-    pub key: i64,
-}
 
 /// The order of departures: by the points that they leave, and round one point clockwise from the east.
 fn compare_departures(departure: &Departure, other: &Departure) -> Ordering
@@ -40,6 +33,9 @@ fn compare_departures(departure: &Departure, other: &Departure) -> Ordering
 fn is_in_order(departure: &Departure, next: &Departure) -> bool
     ensures { result ≡ not (stands_before next.now departure.now) }
 {
+    if departure.ranks_before(next) {
+        return true;
+    }
     !compare_departures(next, departure).is_lt()
 }
 
@@ -98,18 +94,6 @@ fn in_order<'a>(
     in_order_round(alloc, departures)
 }
 
-/// The departure of the edge at a place.
-fn departure_of<'a>(edge: &'a Edge, place: usize) -> Departure<'a>
-    ensures edge { result.edge.now ≡ edge.now }
-    ensures place { result.place ≡ place }
-{
-    Departure {
-        edge,
-        place,
-        key: sort_key(edge.from),
-    }
-}
-
 /// Whether an edge runs from its lower end to its upper one.
 fn runs_up(edge: &Edge) -> bool {
     order_points(&edge.from, &edge.to).is_lt()
@@ -128,7 +112,7 @@ fn list_departures<'a>(
     up.reserve(edges.len())?;
     down.reserve(edges.len())?;
     for (place, edge) in edges.iter().enumerate() {
-        let departure = departure_of(edge, place);
+        let departure = Departure::of(edge, place);
         if runs_up(edge) {
             up.push(departure)?;
         } else {
@@ -264,6 +248,9 @@ pub fn are_apart(departures: &[Departure]) -> bool
 fn leaves_before(departure: &Departure, next: &Departure) -> bool
     ensures { result ≡ is_lt (point_cmp departure.now.edge.now.from next.now.edge.now.from) }
 {
+    if departure.ranks_before(next) {
+        return true;
+    }
     order_points(&departure.edge.from, &next.edge.from).is_lt()
 }
 

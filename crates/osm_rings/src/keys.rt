@@ -3,7 +3,7 @@
 //! Only speed depends on these: callers that search by them then test by the points themselves.
 ghost use Rattle.std.specs.Prelude.{◌<◌, length};
 
-use crate::departures::Departure;
+use crate::departure::Departure;
 use osm_geom::{Point, sort_key};
 use std::alloc::{AllocError as OutOfMemory, Global};
 

@@ -1,12 +1,14 @@
 //! The rings that a sided list of edges is cut into: the walks of successors, cut where they return to a node.
 #![tactic(auto)]
 
+mod departure;
 mod departures;
 mod few;
 mod keys;
 mod laws;
 mod one_list;
 mod packed;
+mod ranks;
 mod ring;
 mod ring_list;
 mod rounds;

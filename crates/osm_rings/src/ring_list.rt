@@ -10,7 +10,8 @@ ghost use Rattle.osm_rings.specs.RingList.{AreRingsOf};
 ghost use Rattle.osm_geom.specs.InPlane.Multiple.{whole_edges};
 ghost use Rattle.osm_geom.specs.InPlane.Sided.{IsSided};
 
-use crate::departures::{Departure, are_apart, departures, node_numbers};
+use crate::departure::Departure;
+use crate::departures::{are_apart, departures, node_numbers};
 use crate::few::walks::few_rings;
 use crate::packed::{all_packed, packed_rings};
 use crate::ring::{Ring, Rings};

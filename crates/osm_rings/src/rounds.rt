@@ -3,7 +3,8 @@
 //! Mostly few leave one point, so these are sorted without a block of memory of their own.
 ghost use Rattle.std.specs.Prelude.{◌≡◌, ◌<◌, ◌≤◌, ◌++◌, IfOk, IsPermutation, OnOk, Some, length, map, unwrap_or};
 
-use crate::departures::{Departure, EAST};
+use crate::departure::Departure;
+use crate::departures::EAST;
 use osm_geom::clockwise;
 use smallvec::SmallVec;
 use std::alloc::{AllocError as OutOfMemory, Global};

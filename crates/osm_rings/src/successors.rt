@@ -11,7 +11,8 @@ ghost use Rattle.osm_rings.specs.Clockwise.{is_met_before};
 ghost use Rattle.osm_rings.specs.Numbered.{edge_at};
 ghost use Rattle.osm_rings.specs.Departures.{AreClockwise, AreClockwiseRound, AreRising, AreDepartures, IsFirstMet};
 
-use crate::departures::{Departure, EAST, leaving};
+use crate::departure::Departure;
+use crate::departures::{EAST, leaving};
 use crate::keys::keys_of;
 use osm_geom::{Dir, Edge, clockwise, sort_key};
 use std::alloc::{AllocError as OutOfMemory, Global};

@@ -13,9 +13,9 @@ pub loop-place-preserved : goal.loop-place-preserved
 loop-place-preserved c =
     let es = c.args.edges.now in
     let n = c.loop-place.place in
-    let w = c.departure_of-departure.result in
+    let w = c.of-departure.result in
     let it = c.index-edges-place.result in
-    let leaves = c.departure_of-departure.ensures in
+    let leaves = c.of-departure.ensures in
     let at = sym leaves.place in
     let here : it ≡ get_or es w.place it = subst (λ k. it ≡ get_or es k it) at c.index-edges-place.is in
     let right : IsDepartureOf es w = departure-of es w (subst (λ k. k < length es) at c.loop-place-test.true) (subst (λ (e : Edge). e ≡ get_or es w.place e) (sym leaves.edge) here) in

@@ -1,0 +1,14 @@
+-- Ranks of points: whole numbers in their order, as far as these tell it. No public contract cites this.
+use Rattle.std.specs.Prelude.{ℤ, pos, ◌*ℤ◌, ◌+ℤ◌}
+use Rattle.osm_geom.specs.declared.point.Point.{Point}
+use Rattle.osm_geom.specs.declared.point.Point.TheVariants.{Lattice, OnVertical, OnHorizontal}
+
+-- of a whole x, or one rounded down, and of such a y
+abbrev pub rank_at : ℤ → ℤ → ℤ
+rank_at x y = y *ℤ pos 4_294_967_296 +ℤ x
+
+-- Points between two whole heights have one rank, which is greater than those of all points at the lower height.
+abbrev pub rank_of : Point → ℤ
+rank_of (Lattice p) = rank_at p.x p.y
+rank_of (OnVertical c y) = rank_at (pos 2_147_483_647) y.floor
+rank_of (OnHorizontal x d) = rank_at x.floor d
