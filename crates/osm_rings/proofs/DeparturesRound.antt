@@ -162,5 +162,10 @@ adjacent-sorted ws true h told = λ k d from inside. not-true _ (sym (told k d i
 adjacent-sorted ws false h told = absurd (cc)
 
 -- a departure from an earlier point belongs before one from a later point
-pub told-before : (v w : Departure) → point_cmp v.edge.now.from w.edge.now.from ≡ Less → true ≡ not (stands_before w v)
-told-before v w h = sym (ap (λ o. not (is_lt o || (is_eq o && points_before w v))) (point_total.antisymm w.edge.now.from v.edge.now.from ∙ ap ordering_reverse h))
+pub told-before : (v w : Departure) → is_lt (point_cmp v.edge.now.from w.edge.now.from) ≡ true → true ≡ not (stands_before w v)
+told-before v w = by (point_cmp v.edge.now.from w.edge.now.from) refl
+  where
+    by : (o : Ordering) → point_cmp v.edge.now.from w.edge.now.from ≡ o → is_lt o ≡ true → true ≡ not (stands_before w v)
+    by Less is h = sym (ap (λ o. not (is_lt o || (is_eq o && points_before w v))) (point_total.antisymm w.edge.now.from v.edge.now.from ∙ ap ordering_reverse is))
+    by Equal is h = cc
+    by Greater is h = cc

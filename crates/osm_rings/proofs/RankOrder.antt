@@ -1,8 +1,7 @@
 -- A point of a lesser rank comes before one of a greater rank.
 use Rattle.std.proofs.Common.{ap, arith, pos, subst, ⊎_elim, inl, inr, refl, sym, unsigned_abs, zero, suc, ℕ, ℤ, ◌*◌, ◌*ℤ◌, ◌+ℤ◌, ◌-ℤ◌, ◌<◌, ◌<ℤ◌, ◌≤ℤ◌, ◌∙◌, ◌≡◌, ◌≤◌, ◌⊎◌}
 use Rattle.std.proofs.lemmas.Int.{ints}
-use Rattle.std.specs.Ordering.{int_cmp, ordering_then}
-use Rattle.std.specs.declared.cmp.Ordering.{Ordering}
+use Rattle.std.specs.Ordering.{ordering_then}
 use Rattle.std.specs.declared.cmp.Ordering.TheVariants.{Equal, Less}
 use Rattle.plane.specs.Sign.{Minus, Null, Plus, Sign, sign}
 use Rattle.plane.proofs.SignKit.{Says, lift, plus-is, same, says, ◌⊞◌, ◌⊟◌, ◌⊠◌}

@@ -1,11 +1,11 @@
 //! An edge as it leaves its point.
-ghost use Rattle.std.specs.Prelude.{◌≡◌, true};
-ghost use Rattle.std.specs.declared.cmp.Ordering.TheVariants.{Less};
-ghost use Rattle.osm_geom.specs.Point.{point_cmp};
+ghost use Rattle.std.specs.Prelude.{◌≡◌};
+ghost use Rattle.std.specs.Ordering.{is_lt};
+ghost use Rattle.osm_geom.specs.Point.{IsInWorld, point_cmp};
 ghost use Rattle.osm_rings.specs.Ranks.{rank_of};
 
-use crate::ranks::rank;
-use osm_geom::Edge;
+use crate::ranks::{is_before, rank};
+use osm_geom::{Edge, Point};
 
 /// An edge, its place in the list, and the rank of the point that it leaves.
 #[derive(Clone, Copy, Debug)]
@@ -29,11 +29,27 @@ impl<'a> Departure<'a> {
         }
     }
 
-    /// Whether the ranks alone show that it leaves an earlier point than another. So the edges mostly aren't read.
-    pub(crate) fn ranks_before(&self, other: &Departure) -> bool
-        ensures { result ≡ true
-            → point_cmp self.now.edge.now.from other.now.edge.now.from ≡ Less }
+    /// Whether it leaves an earlier point than another departure.
+    pub(crate) fn leaves_before(&self, other: &Departure) -> bool
+        ensures { result
+            ≡ is_lt (point_cmp self.now.edge.now.from other.now.edge.now.from) }
     {
-        self.key < other.key
+        is_before(&self.edge.from, self.key, &other.edge.from, other.key)
+    }
+
+    /// Whether it leaves a point that comes before one of a rank.
+    pub(crate) fn begins_before(&self, p: &Point, rank: i64) -> bool
+        requires { (rank ≡ rank_of p.now) × IsInWorld p.now }
+        ensures { result ≡ is_lt (point_cmp self.now.edge.now.from p.now) }
+    {
+        is_before(&self.edge.from, self.key, p, rank)
+    }
+
+    /// Whether it leaves a point that comes after one of a rank.
+    pub(crate) fn begins_after(&self, p: &Point, rank: i64) -> bool
+        requires { (rank ≡ rank_of p.now) × IsInWorld p.now }
+        ensures { result ≡ is_lt (point_cmp p.now self.now.edge.now.from) }
+    {
+        is_before(p, rank, &self.edge.from, self.key)
     }
 }

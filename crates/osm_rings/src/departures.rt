@@ -4,12 +4,13 @@
 ghost use Rattle.std.specs.Prelude.{◌≡◌, ◌<◌, ◌≤◌, ◌-◌, [], All, IfOk, IsPermutation, List, OnOk, false, length, not, slice_index_or, true};
 ghost use Rattle.std.specs.Ordering.{is_lt};
 ghost use Rattle.osm_geom.specs.declared.edge.Edge.{Edge};
-ghost use Rattle.osm_geom.specs.Point.{point_cmp};
+ghost use Rattle.osm_geom.specs.Point.{IsInWorld, point_cmp};
 ghost use Rattle.osm_rings.specs.Apart.{LeaveApart};
 ghost use Rattle.osm_rings.specs.Departures.{AreClockwiseRound, AreDepartures, AreFrom, AreInTwoLists, AreRising, IsEndAt, IsFirstAt, TellStarts, stands_before};
 
 use crate::departure::Departure;
 use crate::keys::guess_first;
+use crate::ranks::rank;
 use crate::rounds::rounds;
 use osm_geom::{Dir, Edge, Point, clockwise, compare_points, order_points};
 use std::alloc::{AllocError as OutOfMemory, Global};
@@ -33,7 +34,7 @@ fn compare_departures(departure: &Departure, other: &Departure) -> Ordering
 fn is_in_order(departure: &Departure, next: &Departure) -> bool
     ensures { result ≡ not (stands_before next.now departure.now) }
 {
-    if departure.ranks_before(next) {
+    if departure.leaves_before(next) {
         return true;
     }
     !compare_departures(next, departure).is_lt()
@@ -136,32 +137,20 @@ pub fn departures<'a>(alloc: Global, edges: &'a [Edge]) -> Result<Vec<Departure<
     in_order(alloc, up)
 }
 
-/// Whether a departure leaves an earlier point than p.
-fn begins_before(departure: &Departure, p: &Point) -> bool
-    ensures { result ≡ is_lt (point_cmp departure.now.edge.now.from p.now) }
-{
-    order_points(&departure.edge.from, p).is_lt()
-}
-
-/// Whether a departure leaves a later point than p.
-fn begins_after(departure: &Departure, p: &Point) -> bool
-    ensures { result ≡ is_lt (point_cmp p.now departure.now.edge.now.from) }
-{
-    order_points(p, &departure.edge.from).is_lt()
-}
-
 /// Whether the departure before a place leaves an earlier point than p, and the one at the place doesn't.
 fn parts_before(departures: &[Departure], p: Point, place: usize) -> bool
-    requires { place ≤ length departures.now }
+    requires within { place ≤ length departures.now }
+    requires world { IsInWorld p }
     ensures before { result ≡ true → (d : Departure) → 0 < place
         → is_lt (point_cmp (slice_index_or departures.now (place - 1) d).edge.now.from p) ≡ true }
     ensures from { result ≡ true → (d : Departure) → place < length departures.now
         → is_lt (point_cmp (slice_index_or departures.now place d).edge.now.from p) ≡ false }
 {
-    if place > 0 && !begins_before(&departures[place - 1], &p) {
+    let rank = rank(&p);
+    if place > 0 && !departures[place - 1].begins_before(&p, rank) {
         return false;
     }
-    if place < departures.len() && begins_before(&departures[place], &p) {
+    if place < departures.len() && departures[place].begins_before(&p, rank) {
         return false;
     }
     true
@@ -169,7 +158,8 @@ fn parts_before(departures: &[Departure], p: Point, place: usize) -> bool
 
 /// Whether the departures that leave p or a later point begin at a place.
 fn is_first_at(departures: &[Departure], p: Point, place: usize) -> bool
-    requires { AreRising departures.now }
+    requires rising { AreRising departures.now }
+    requires world { IsInWorld p }
     ensures inside { result ≡ true → place ≤ length departures.now }
     ensures first { result ≡ true → IsFirstAt departures.now p place }
 {
@@ -184,7 +174,8 @@ fn is_first_at(departures: &[Departure], p: Point, place: usize) -> bool
 /// Ways: four places from `near` on by sort keys; other places by binary search of the sort keys; all others by that of the
 /// points.
 fn first_at(departures: &[Departure], keys: &[i64], near: usize, p: Point) -> usize
-    requires { AreRising departures.now }
+    requires rising { AreRising departures.now }
+    requires world { IsInWorld p }
     ensures inside { result ≤ length departures.now }
     ensures first { IsFirstAt departures.now p result }
 {
@@ -197,16 +188,18 @@ fn first_at(departures: &[Departure], keys: &[i64], near: usize, p: Point) -> us
 
 /// Whether the departure at a place leaves a later point than p, and the one before it doesn't.
 fn parts_after(departures: &[Departure], p: Point, place: usize) -> bool
-    requires { place ≤ length departures.now }
+    requires within { place ≤ length departures.now }
+    requires world { IsInWorld p }
     ensures before { result ≡ true → (d : Departure) → 0 < place
         → is_lt (point_cmp p (slice_index_or departures.now (place - 1) d).edge.now.from) ≡ false }
     ensures from { result ≡ true → (d : Departure) → place < length departures.now
         → is_lt (point_cmp p (slice_index_or departures.now place d).edge.now.from) ≡ true }
 {
-    if place > 0 && begins_after(&departures[place - 1], &p) {
+    let rank = rank(&p);
+    if place > 0 && departures[place - 1].begins_after(&p, rank) {
         return false;
     }
-    if place < departures.len() && !begins_after(&departures[place], &p) {
+    if place < departures.len() && !departures[place].begins_after(&p, rank) {
         return false;
     }
     true
@@ -214,7 +207,8 @@ fn parts_after(departures: &[Departure], p: Point, place: usize) -> bool
 
 /// Whether the departures that leave p or an earlier point end at a place.
 fn is_end_at(departures: &[Departure], p: Point, place: usize) -> bool
-    requires { AreRising departures.now }
+    requires rising { AreRising departures.now }
+    requires world { IsInWorld p }
     ensures inside { result ≡ true → place ≤ length departures.now }
     ensures end { result ≡ true → IsEndAt departures.now p place }
 {
@@ -226,7 +220,8 @@ fn is_end_at(departures: &[Departure], p: Point, place: usize) -> bool
 
 /// How many departures begin at p or before. Mostly one begins at p, at the place `first`.
 fn end_at(departures: &[Departure], p: Point, first: usize) -> usize
-    requires { AreRising departures.now }
+    requires rising { AreRising departures.now }
+    requires world { IsInWorld p }
     ensures inside { result ≤ length departures.now }
     ensures end { IsEndAt departures.now p result }
 {
@@ -241,17 +236,7 @@ fn end_at(departures: &[Departure], p: Point, first: usize) -> usize
 pub fn are_apart(departures: &[Departure]) -> bool
     ensures { result ≡ true → (es : List Edge) → AreDepartures es departures.now → LeaveApart es }
 {
-    departures.is_sorted_by(|departure, next| leaves_before(departure, next))
-}
-
-/// Whether a departure leaves an earlier point than the next.
-fn leaves_before(departure: &Departure, next: &Departure) -> bool
-    ensures { result ≡ is_lt (point_cmp departure.now.edge.now.from next.now.edge.now.from) }
-{
-    if departure.ranks_before(next) {
-        return true;
-    }
-    order_points(&departure.edge.from, &next.edge.from).is_lt()
+    departures.is_sorted_by(|departure, next| departure.leaves_before(next))
 }
 
 /// Whether the departure at a place is the first that leaves its point.
@@ -265,7 +250,7 @@ fn is_first_there(departures: &[Departure], place: usize) -> bool
         ≡ (slice_index_or departures.now place d).edge.now.from }
     ensures some { result ≡ false → 0 < place }
 {
-    place == 0 || leaves_before(&departures[place - 1], &departures[place])
+    place == 0 || departures[place - 1].leaves_before(&departures[place])
 }
 
 /// The number of the node that the departure at a place leaves, by that of the one before it.
@@ -305,7 +290,8 @@ pub fn node_numbers(
 
 /// The range of places of the departures that begin at p.
 fn range_at(departures: &[Departure], keys: &[i64], near: usize, p: Point) -> (usize, usize)
-    requires { AreRising departures.now }
+    requires rising { AreRising departures.now }
+    requires world { IsInWorld p }
     ensures ordered { result.0 ≤ result.1 }
     ensures inside { result.1 ≤ length departures.now }
     ensures first { IsFirstAt departures.now p result.0 }
@@ -327,6 +313,7 @@ pub fn leaving<'a, 'b>(
 ) -> &'b [Departure<'a>]
     requires rising { AreRising departures.now }
     requires round { AreClockwiseRound departures.now }
+    requires world { IsInWorld p }
     ensures { AreFrom departures.now p result.now }
 {
     let range = range_at(departures, keys, *near, p);

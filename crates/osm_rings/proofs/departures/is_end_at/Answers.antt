@@ -4,4 +4,4 @@ use Rattle.osm_rings.proofs.Starts.{end-by-neighbours}
 use Rattle.osm_rings.proofs.departures.is_end_at.Goals as goal
 
 pub returns-clause-end : goal.returns-clause-end
-returns-clause-end c h = end-by-neighbours c.args.departures.now c.requires c.args.p c.args.place (omega arith) (c.parts_after.ensures.before h) (c.parts_after.ensures.from h)
+returns-clause-end c h = end-by-neighbours c.args.departures.now c.requires.rising c.args.p c.args.place (omega arith) (c.parts_after.ensures.before h) (c.parts_after.ensures.from h)
