@@ -15,7 +15,7 @@ use Rattle.osm_geom.specs.Part.{part_num}
 use Rattle.osm_geom.specs.Point.{Fraction, IsInWorld, fraction_in, point_cmp, whole, x_of, y_of}
 use Rattle.osm_geom.specs.RatioOrder.{fraction_cmp}
 use Rattle.osm_geom.proofs.GeometryKit.{part_whole, point_cmp_is}
-use Rattle.osm_rings.specs.Ranks.{rank_at, rank_of}
+use Rattle.osm_rings.specs.Ranks.{rank_at, point_rank}
 
 -- ---- fractions by their floors
 -- a fraction is q and r of its parts, which are fewer than one whole
@@ -79,16 +79,13 @@ first-by Minus x y x' y' h c d less = absurd (omega (arith, ints))
 comes-first : (x y x' y' : ℤ) → IsColumn x → IsColumn x' → rank_at x y <ℤ rank_at x' y' → ComesFirst x y x' y'
 comes-first x y x' y' c d less = first-by (sign (y' -ℤ y)) x y x' y' (says (y' -ℤ y)) c d less
 
-spread : (a b c : ℤ) → (a -ℤ b) *ℤ c ≡ a *ℤ c -ℤ b *ℤ c
-spread a b c = same ((lift a ⊟ lift b) ⊠ lift c) (lift a ⊠ lift c ⊟ lift b ⊠ lift c) (omega arith)
-
 -- the floor of a longitude is a column
 module _ (q : ℤ) (r k : ℕ) (below : r < k) (world : unsigned_abs (q *ℤ pos k +ℤ pos r) ≤ 1_800_000_000 * k) where
   too_high : (pos 0 ≤ℤ (q -ℤ pos 2_147_483_648)) → ⊥
-  too_high h = let a = subst (λ z. pos 0 ≤ℤ z) (spread q (pos 2_147_483_648) (pos k)) (product_not_below (q -ℤ pos 2_147_483_648) (pos k) h (omega (arith, ints))) in omega (arith, signed, a, below, world)
+  too_high h = let a = subst (λ z. pos 0 ≤ℤ z) (same ((lift q ⊟ lift (pos 2_147_483_648)) ⊠ lift (pos k)) (lift q ⊠ lift (pos k) ⊟ lift (pos 2_147_483_648) ⊠ lift (pos k)) (omega arith)) (product_not_below (q -ℤ pos 2_147_483_648) (pos k) h (omega (arith, ints))) in omega (arith, signed, a, below, world)
 
   too_low : (pos 0 ≤ℤ ((pos 0 -ℤ pos 2_147_483_649) -ℤ q)) → ⊥
-  too_low h = let a = subst (λ z. pos 0 ≤ℤ z) (spread (pos 0 -ℤ pos 2_147_483_649) q (pos k)) (product_not_below ((pos 0 -ℤ pos 2_147_483_649) -ℤ q) (pos k) h (omega (arith, ints))) in omega (arith, signed, a, below, world)
+  too_low h = let a = subst (λ z. pos 0 ≤ℤ z) (same ((lift (pos 0 -ℤ pos 2_147_483_649) ⊟ lift q) ⊠ lift (pos k)) (lift (pos 0 -ℤ pos 2_147_483_649) ⊠ lift (pos k) ⊟ lift q ⊠ lift (pos k)) (omega arith)) (product_not_below ((pos 0 -ℤ pos 2_147_483_649) -ℤ q) (pos k) h (omega (arith, ints))) in omega (arith, signed, a, below, world)
 
   high-by : (s : Sign) → Says s (q -ℤ pos 2_147_483_648) → q ≤ℤ pos 2_147_483_647
   high-by Minus h = omega (arith, ints)
@@ -113,7 +110,7 @@ row (Lattice p) = p.y
 row (OnVertical c y) = y.floor
 row (OnHorizontal x d) = d
 
-rank-is : (p : Point) → rank_of p ≡ rank_at (column p) (row p)
+rank-is : (p : Point) → point_rank p ≡ rank_at (column p) (row p)
 rank-is (Lattice p) = refl
 rank-is (OnVertical c y) = refl
 rank-is (OnHorizontal x d) = refl
@@ -149,8 +146,8 @@ in-row (OnHorizontal x d) (OnHorizontal w b) c e h = by-x (OnHorizontal x d) (On
 in-row (OnHorizontal x d) (OnVertical v y) c e h = by-y (OnHorizontal x d) (OnVertical v y) (less-than-part d y e)
 in-row (OnVertical v y) q c e h = let most = c.1 in absurd (omega (arith, ints, most, h))
 
-pub rank-tells : (p q : Point) → IsInWorld p → IsInWorld q → rank_of p <ℤ rank_of q → point_cmp p q ≡ Less
+pub rank-tells : (p q : Point) → IsInWorld p → IsInWorld q → point_rank p <ℤ point_rank q → point_cmp p q ≡ Less
 rank-tells p q world other less =
     ⊎_elim (λ (low : row p <ℤ row q). by-y p q (less-by-floors (y_of p) (y_of q) (row p) (row q) (rest p) (rest q) (row-floored p) (row-floored q) low))
     (λ (level : (row p ≡ row q) × (column p <ℤ column q)). in-row p q (column-in q other) level.0 level.1)
-    (comes-first (column p) (row p) (column q) (row q) (column-in p world) (column-in q other) (subst (λ z. z <ℤ rank_at (column q) (row q)) (rank-is p) (subst (λ z. rank_of p <ℤ z) (rank-is q) less)))
+    (comes-first (column p) (row p) (column q) (row q) (column-in p world) (column-in q other) (subst (λ z. z <ℤ rank_at (column q) (row q)) (rank-is p) (subst (λ z. point_rank p <ℤ z) (rank-is q) less)))

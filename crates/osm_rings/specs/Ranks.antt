@@ -8,7 +8,7 @@ abbrev pub rank_at : ℤ → ℤ → ℤ
 rank_at x y = y *ℤ pos 4_294_967_296 +ℤ x
 
 -- Points between two whole heights have one rank, which is greater than those of all points at the lower height.
-abbrev pub rank_of : Point → ℤ
-rank_of (Lattice p) = rank_at p.x p.y
-rank_of (OnVertical c y) = rank_at (pos 2_147_483_647) y.floor
-rank_of (OnHorizontal x d) = rank_at x.floor d
+abbrev pub point_rank : Point → ℤ
+point_rank (Lattice p) = rank_at p.x p.y
+point_rank (OnVertical c y) = rank_at (pos 2_147_483_647) y.floor
+point_rank (OnHorizontal x d) = rank_at x.floor d

@@ -2,7 +2,7 @@
 ghost use Rattle.std.specs.Prelude.{◌≡◌};
 ghost use Rattle.std.specs.Ordering.{is_lt};
 ghost use Rattle.osm_geom.specs.Point.{IsInWorld, point_cmp};
-ghost use Rattle.osm_rings.specs.Ranks.{rank_of};
+ghost use Rattle.osm_rings.specs.Ranks.{point_rank};
 
 use crate::ranks::{is_before, rank};
 use osm_geom::{Edge, Point};
@@ -13,7 +13,7 @@ pub struct Departure<'a> {
     pub edge: &'a Edge,
     pub place: usize,
     pub key: i64,
-    pub ghost ranked: { key ≡ rank_of edge.now.from },
+    pub ghost ranked: { key ≡ point_rank edge.now.from },
 }
 
 impl<'a> Departure<'a> {
@@ -39,7 +39,7 @@ impl<'a> Departure<'a> {
 
     /// Whether it leaves a point that comes before one of a rank.
     pub(crate) fn begins_before(&self, p: &Point, rank: i64) -> bool
-        requires { (rank ≡ rank_of p.now) × IsInWorld p.now }
+        requires { (rank ≡ point_rank p.now) × IsInWorld p.now }
         ensures { result ≡ is_lt (point_cmp self.now.edge.now.from p.now) }
     {
         is_before(&self.edge.from, self.key, p, rank)
@@ -47,7 +47,7 @@ impl<'a> Departure<'a> {
 
     /// Whether it leaves a point that comes after one of a rank.
     pub(crate) fn begins_after(&self, p: &Point, rank: i64) -> bool
-        requires { (rank ≡ rank_of p.now) × IsInWorld p.now }
+        requires { (rank ≡ point_rank p.now) × IsInWorld p.now }
         ensures { result ≡ is_lt (point_cmp p.now self.now.edge.now.from) }
     {
         is_before(p, rank, &self.edge.from, self.key)

@@ -2,7 +2,7 @@
 ghost use Rattle.std.specs.Prelude.{◌≡◌, ◌⊎◌, ◌≤ℤ◌, ◌-ℤ◌, pos};
 ghost use Rattle.std.specs.Ordering.{is_lt};
 ghost use Rattle.osm_geom.specs.Point.{IsInWorld, point_cmp};
-ghost use Rattle.osm_rings.specs.Ranks.{rank_at, rank_of};
+ghost use Rattle.osm_rings.specs.Ranks.{rank_at, point_rank};
 
 use osm_geom::{Point, order_points};
 
@@ -17,7 +17,7 @@ fn rank_at(x: i32, y: i32) -> i64
 /// The rank of a point. It is the number that `sort_key` gives.
 pub(crate) fn rank(p: &Point) -> i64
     requires { IsInWorld p.now }
-    ensures { result ≡ rank_of p.now }
+    ensures { result ≡ point_rank p.now }
 {
     match p {
         Point::Lattice(at) => rank_at(at.x, at.y),
@@ -28,8 +28,8 @@ pub(crate) fn rank(p: &Point) -> i64
 
 /// Whether a point comes before another, of which the ranks are known. So the points mostly aren't read.
 pub(crate) fn is_before(p: &Point, rank: i64, q: &Point, other: i64) -> bool
-    requires first { (rank ≡ rank_of p.now) × IsInWorld p.now }
-    requires second { (other ≡ rank_of q.now) × IsInWorld q.now }
+    requires first { (rank ≡ point_rank p.now) × IsInWorld p.now }
+    requires second { (other ≡ point_rank q.now) × IsInWorld q.now }
     ensures { result ≡ is_lt (point_cmp p.now q.now) }
 {
     if rank < other {
