@@ -35,14 +35,14 @@ lesser-from-by : (c a b : ℤ) (s : Bool) → c ≤ℤ a → c ≤ℤ b → c �
 lesser-from-by c a b true h k = h
 lesser-from-by c a b false h k = k
 
-lesser-from : (c a b : ℤ) → c ≤ℤ a → c ≤ℤ b → c ≤ℤ lesser a b
+pub lesser-from : (c a b : ℤ) → c ≤ℤ a → c ≤ℤ b → c ≤ℤ lesser a b
 lesser-from c a b h k = lesser-from-by c a b (is_minus (sign (a -ℤ b))) h k
 
 greater-from-by : (c a b : ℤ) (s : Bool) → a ≤ℤ c → b ≤ℤ c → cond s b a ≤ℤ c
 greater-from-by c a b true h k = k
 greater-from-by c a b false h k = h
 
-greater-from : (c a b : ℤ) → a ≤ℤ c → b ≤ℤ c → greater a b ≤ℤ c
+pub greater-from : (c a b : ℤ) → a ≤ℤ c → b ≤ℤ c → greater a b ≤ℤ c
 greater-from c a b h k = greater-from-by c a b (is_minus (sign (a -ℤ b))) h k
 
 -- ---- the ends of edges

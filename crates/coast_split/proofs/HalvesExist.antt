@@ -44,7 +44,7 @@ crossing-by cut e (Horizontal d) h o =
     let p : Loc = record { x = cut.at; y = d; x_in = horizontal-at-in cut e d h o; y_in = horizontal-d-in e d h } in
     record { point = Lattice p; on_line = horizontal-meets cut e d p h o refl; on_carrier = horizontal-on e.carrier d p h refl; in_world = in_world p }
 
-minus-of : (a : Sign) → negated a ≡ Plus → a ≡ Minus
+pub minus-of : (a : Sign) → negated a ≡ Plus → a ≡ Minus
 minus-of Minus h = refl
 minus-of Null h = absurd (cc h)
 minus-of Plus h = absurd (cc h)

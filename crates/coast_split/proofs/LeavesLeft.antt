@@ -1,18 +1,27 @@
 -- What is to come of a list that is cut is to come of its halves; a list that isn't cut is the next leaf.
-use Rattle.std.proofs.Common.{List, [], ap, false, map, refl, reverse, subst, sym, ℕ, ◌++◌, ◌∙◌, ◌∷◌, ◌≡◌}
-use Rattle.std.proofs.lemmas.List.{append_assoc, map-append, reverse-append}
+use Rattle.std.proofs.Common.{List, [], ap, false, map, refl, subst, sym, true, ℕ, ◌&&◌, ◌++◌, ◌∙◌, ◌∷◌, ◌≡◌}
+use Rattle.std.proofs.lemmas.List.{append_assoc, map-append}
 use Rattle.osm_geom.specs.declared.cut.Side.TheVariants.{Low, High}
 use Rattle.osm_geom.specs.declared.edge.Edge.{Edge}
+use Rattle.osm_geom.specs.InPlane.Sided.{IsSided}
 use Rattle.coast_split.specs.declared.leaves.Leaf.{Leaf}
+use Rattle.coast_split.specs.Half.{IsHalf}
 use Rattle.coast_split.specs.LeavesLeft.{IsNextLeaf}
-use Rattle.coast_split.specs.SplitTree.{AreLeaves, IsTree, Tree, high_cut, is_split, leaf_of, leaves_of, low_cut, middle_of}
+use Rattle.coast_split.specs.SplitTree.{AreLeaves, IsTree, Tree, high_cut, is_large, is_split, is_wide, leaf_of, leaves_of, longer_of, low_cut, middle_of, width_of}
 use Rattle.coast_split.specs.SplitTree.Tree.{Fork, Whole}
-use Rattle.coast_split.specs.Splitting.{AreSidedHalves, HaveSameLeaves, IsCutOff}
+use Rattle.coast_split.specs.Splitting.{HaveSameLeaves}
 use Rattle.coast_split.proofs.OneHalf.{one-half}
-use Rattle.coast_split.proofs.Splitting.{low-falls}
 use Rattle.lists.proofs.ListsKit.{clash}
 
 -- ---- a list that is cut
+-- the halves of a list that is cut
+pub record AreSidedHalves (m o : ℕ) (es low high : List Edge) : Type 0 where
+  pub is_cut : is_split m o es ≡ true
+  pub low_half : IsHalf (low_cut (middle_of es) o) Low es low
+  pub high_half : IsHalf (high_cut (middle_of es) o) High es high
+  pub low_sided : IsSided low
+  pub high_sided : IsSided high
+
 module _ (m o : ℕ) (es low high : List Edge) (h : AreSidedHalves m o es low high) where
   fork-leaves : (a b : List Leaf) → AreLeaves m o low a → AreLeaves m o high b → AreLeaves m o es (a ++ b)
   fork-leaves a b x y = record {
@@ -50,14 +59,10 @@ module _ (m o : ℕ) (es low high : List Edge) (h : AreSidedHalves m o es low hi
     λ k. let g = k.3 in (k.0 ++ g.0, g.1, fork-leaves k.0 g.0 k.2 g.2, g.3, k.4 ∙ ap (λ v. k.0 ++ v) g.4 ∙ sym (append_assoc k.0 g.0 g.1)),
   )
 
-  pub cut-off : (before : List (List Edge)) → IsCutOff m o es (reverse before) low (reverse (before ++ high ∷ []))
-  cut-off before = record {
-    sided = h.low_sided;
-    smaller = low-falls m o es h.is_cut low h.low_half;
-    same = subst (λ v. HaveSameLeaves m o (es ∷ reverse before) (low ∷ v)) (sym (reverse-append before (high ∷ []))) (cut-same (reverse before));
-  }
-
 -- ---- a list that isn't cut
+pub not-split : (m o : ℕ) (es : List Edge) → is_large m es ≡ false → is_split m o es ≡ false
+not-split m o es h = ap (λ b. b && is_wide o (width_of (longer_of es) es)) h
+
 module _ (m o : ℕ) (es : List Edge) (h : is_split m o es ≡ false) where
   whole-by : (t : Tree) → IsTree m o es t → map (leaf_of m) (leaves_of es t) ≡ leaf_of m es ∷ []
   whole-by Whole k = refl
@@ -82,9 +87,3 @@ module _ (m o : ℕ) where
 
   pub same-next : (before mid after : List (List Edge)) (leaf : Leaf) → HaveSameLeaves m o before mid → IsNextLeaf m o mid leaf after → IsNextLeaf m o before leaf after
   same-next before mid after leaf h g = record { parts = λ ls k. g.parts ls ((h ls).0 k); joins = λ later k. (h (leaf ∷ later)).1 (g.joins later k) }
-
-  -- a list is put last, to be the next
-  pub put-last : (es : List Edge) (before old new : List (List Edge)) (low : List Edge) → before ≡ [] → new ≡ old ++ low ∷ [] → HaveSameLeaves m o (es ∷ reverse before) (low ∷ reverse old) →
-      HaveSameLeaves m o (es ∷ []) (reverse new)
-  put-last es before old new low e g h =
-      subst (HaveSameLeaves m o (es ∷ [])) (sym (ap reverse g ∙ reverse-append old (low ∷ []))) (subst (λ v. HaveSameLeaves m o (es ∷ reverse v) (low ∷ reverse old)) e h)

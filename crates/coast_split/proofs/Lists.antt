@@ -14,7 +14,7 @@ module _ (cut : Cut) (s : Side) where
   next-by e true P Q [] us f n = absurd n
   next-by e true P Q (t ∷ ts) us f n = (n.0, f ts n.1)
 
-  next-known : (e : Edge) (b : Bool) (P : List Edge → Type 0) (ts : List Edge) → has_portion cut s e ≡ b → NextPortion cut s e b P ts → NextPortion cut s e (has_portion cut s e) P ts
+  pub next-known : (e : Edge) (b : Bool) (P : List Edge → Type 0) (ts : List Edge) → has_portion cut s e ≡ b → NextPortion cut s e b P ts → NextPortion cut s e (has_portion cut s e) P ts
   next-known e b P ts h n = subst (λ x. NextPortion cut s e x P ts) (sym h) n
 
   -- the portions of one list, and then of another
@@ -40,7 +40,7 @@ pub ends-more : (cut : Cut) (ts : List Edge) (t : Edge) → ends_on cut (ts ++ t
 ends-more cut ts t =
     ends-append cut ts (t ∷ []) ∙ ap (λ l. ends_on cut ts ++ (end_on cut t.from ++ l)) (append-nil (end_on cut t.to)) ∙ sym (append_assoc (ends_on cut ts) (end_on cut t.from) (end_on cut t.to))
 
-pub next-taken : (es : List Edge) (i : ℕ) (e : Edge) → e ≡ get_or es i e → i < length es → take (i + 1) es ≡ take i es ++ e ∷ []
+pub next-taken : {X : Type 0} (es : List X) (i : ℕ) (e : X) → e ≡ get_or es i e → i < length es → take (i + 1) es ≡ take i es ++ e ∷ []
 next-taken es i e is inside = take_more es i e inside ∙ ap (λ x. take i es ++ x ∷ []) (sym is)
 
 module _ (cut : Cut) (s : Side) (es : List Edge) (i : ℕ) (e : Edge) (is : e ≡ get_or es i e) (inside : i < length es) (ps : List Edge) (so_far : ArePortions cut s (take i es) ps) where
@@ -52,6 +52,8 @@ module _ (cut : Cut) (s : Side) (es : List Edge) (i : ℕ) (e : Edge) (is : e �
   step-one new t grown p =
       subst (λ us. ArePortions cut s us new) (sym (next-taken es i e is inside)) (subst (ArePortions cut s (take i es ++ e ∷ [])) (sym grown) (one-more cut s (take i es) ps e t so_far p.0 p.1))
 
-pub ends-step : (cut : Cut) (ts : List Edge) (i : ℕ) (t : Edge) → t ≡ get_or ts i t → i < length ts → (a b c : List Point) → a ≡ ends_on cut (take i ts) → b ≡ a ++ end_on cut t.from → c ≡ b ++ end_on cut t.to → c ≡ ends_on cut (take (i + 1) ts)
-ends-step cut ts i t is inside a b c ha hb hc =
-    hc ∙ ap (λ l. l ++ end_on cut t.to) (hb ∙ ap (λ l. l ++ end_on cut t.from) ha) ∙ sym (ap (ends_on cut) (next-taken ts i t is inside) ∙ ends-more cut (take i ts) t)
+pub ends-step : (cut : Cut) (ts : List Edge) (i : ℕ) (t : Edge) → t ≡ get_or ts i t → i < length ts → (old a b c : List Point) → a ≡ old ++ ends_on cut (take i ts) → b ≡ a ++ end_on cut t.from → c ≡ b ++ end_on cut t.to → c ≡ old ++ ends_on cut (take (i + 1) ts)
+ends-step cut ts i t is inside old a b c ha hb hc =
+    let us = ends_on cut (take i ts) in
+    hc ∙ ap (λ l. l ++ end_on cut t.to) (hb ∙ ap (λ l. l ++ end_on cut t.from) ha) ∙ append_assoc (old ++ us) (end_on cut t.from) (end_on cut t.to) ∙ append_assoc old us (end_on cut t.from ++ end_on cut t.to)
+    ∙ ap (λ l. old ++ l) (sym (ap (ends_on cut) (next-taken ts i t is inside) ∙ ends-more cut (take i ts) t ∙ append_assoc us (end_on cut t.from) (end_on cut t.to)))

@@ -33,7 +33,7 @@ cancel-by a b k h g Minus e =
 cancel-by a b k h g Null e = let n = says-at Null (b -ℤ a) e in omega (arith, ints)
 cancel-by a b k h g Plus e = let n = says-at Plus (b -ℤ a) e in omega (arith, ints)
 
-cancel : (a b : ℤ) (k : ℕ) → 1 ≤ k → (a *ℤ pos k) ≤ℤ (b *ℤ pos k) → a ≤ℤ b
+pub cancel : (a b : ℤ) (k : ℕ) → 1 ≤ k → (a *ℤ pos k) ≤ℤ (b *ℤ pos k) → a ≤ℤ b
 cancel a b k h g = cancel-by a b k h g (sign (b -ℤ a)) refl
 
 pub width-some : (axis : Axis) (es : List Edge) → low_of axis es ≤ℤ high_of axis es
@@ -49,7 +49,7 @@ no-wider cut s es (e ∷ hs) h axis =
     let b = half-holds cut s axis (low_of axis es) (high_of axis es) es (e ∷ hs) (in-envelope axis es) h in
     let g = envelope-in axis (low_of axis es) (high_of axis es) e hs (λ d i. ((b d i).0.0, (b d i).1.0)) in omega (arith, ints)
 
-low-most : (axis : Axis) (at : ℤ) (p : Point) → not (is_minus (order_at axis at p)) ≡ true → AtMost (coordinate_of axis p) at
+pub low-most : (axis : Axis) (at : ℤ) (p : Point) → not (is_minus (order_at axis at p)) ≡ true → AtMost (coordinate_of axis p) at
 low-most axis at p h = most-back _ _ (order_at axis at p) refl h
 
 kept-plus : (o : Sign) → not (is_minus (negated o)) ≡ true → not (is_plus o) ≡ true
@@ -57,7 +57,7 @@ kept-plus Plus h = absurd (cc h)
 kept-plus Null h = refl
 kept-plus Minus h = refl
 
-high-least : (axis : Axis) (at : ℤ) (p : Point) → not (is_minus (negated (order_at axis at p))) ≡ true → AtLeast at (coordinate_of axis p)
+pub high-least : (axis : Axis) (at : ℤ) (p : Point) → not (is_minus (negated (order_at axis at p))) ≡ true → AtLeast at (coordinate_of axis p)
 high-least axis at p h = least-back _ _ (order_at axis at p) refl (kept-plus (order_at axis at p) h)
 
 pub low-narrow : (axis : Axis) (at : ℤ) (es : List Edge) (e : Edge) (hs : List Edge) → IsHalf (record { axis = axis; at = at }) Low es (e ∷ hs) → (low_of axis es ≤ℤ low_of axis (e ∷ hs)) × (high_of axis (e ∷ hs) ≤ℤ at)

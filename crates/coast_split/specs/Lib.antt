@@ -1,3 +1,4 @@
+pub mod Batches
 pub mod Envelope
 pub mod Half
 pub mod HalfCount
@@ -8,4 +9,5 @@ pub mod SplitTree
 pub mod Splitting
 pub mod ToCut
 pub mod TreeLaws
+pub mod Waiting
 pub mod Walk

@@ -1,26 +1,16 @@
 -- Words of private clauses on the steps of splitting. No public contract cites them.
 use Rattle.std.specs.Prelude.{List, None, Option, Some, length, false, true, unsigned_abs, ℕ, ◌<◌, ◌↔◌, ◌≤◌, ◌∷◌, ◌≡◌}
 use Rattle.osm_geom.specs.declared.cut.Cut.{Cut}
-use Rattle.osm_geom.specs.declared.cut.Side.TheVariants.{Low, High}
 use Rattle.osm_geom.specs.declared.edge.Edge.{Edge}
 use Rattle.osm_geom.specs.InPlane.Sided.{IsSided}
-use Rattle.coast_split.specs.Half.{IsHalf}
 use Rattle.coast_split.specs.LeavesLeft.{AreLeft}
 use Rattle.coast_split.specs.declared.leaves.Leaf.{Leaf}
-use Rattle.coast_split.specs.SplitTree.{high_cut, is_split, low_cut, middle_of, size_of}
+use Rattle.coast_split.specs.SplitTree.{is_split, middle_of, size_of}
 
 -- where the list is cut, if it is
 abbrev pub IsMiddle : ℕ → ℕ → List Edge → Option Cut → Type 0
 IsMiddle m o es None = is_split m o es ≡ false
 IsMiddle m o es (Some middle) = (is_split m o es ≡ true) × (middle ≡ middle_of es) × (unsigned_abs middle.at ≤ 1_800_000_000)
-
--- the halves of a list that is cut
-pub record AreSidedHalves (m o : ℕ) (es low high : List Edge) : Type 0 where
-  pub is_cut : is_split m o es ≡ true
-  pub low_half : IsHalf (low_cut (middle_of es) o) Low es low
-  pub high_half : IsHalf (high_cut (middle_of es) o) High es high
-  pub low_sided : IsSided low
-  pub high_sided : IsSided high
 
 -- both have the same leaves still to come
 abbrev pub HaveSameLeaves : ℕ → ℕ → List (List Edge) → List (List Edge) → Type 0

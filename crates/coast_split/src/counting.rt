@@ -1,49 +1,66 @@
 //! How many leaves a list has.
-ghost use Rattle.std.specs.Prelude.{◌≡◌, ◌≤◌, ◌<◌, ◌+◌, ◌∷◌, [], IfErr, IfOk, List, length, false, true, ℕ};
+ghost use Rattle.std.specs.Prelude.{◌≡◌, ◌≤◌, ◌<◌, [], IfErr, IfOk, List, length, false, true, ℕ};
 ghost use Rattle.osm_geom.specs.InPlane.Sided.{IsSided};
 ghost use Rattle.coast_split.specs.declared.leaves.Leaf.{Leaf};
 ghost use Rattle.coast_split.specs.declared.leaves.SplitError.TheVariants.{TooManyPieces};
 ghost use Rattle.coast_split.specs.LeavesLeft.{AreLeft, IsNextLeaf};
 ghost use Rattle.coast_split.specs.SplitTree.{AreLeaves, HasMoreLeaves};
 ghost use Rattle.coast_split.specs.Splitting.{HaveMoreLeft};
+ghost use Rattle.coast_split.specs.Waiting.{AreWaiting, lists_in};
 
-use crate::in_turn::Leaves;
+use crate::batches::Batches;
+use crate::in_turn::next_leaf;
 use crate::laws::split_trees_exist;
-use crate::leaves::{Settings, SplitError};
-use osm_geom::Edges;
+use crate::leaves::{Settings, SplitError, has_many};
+use osm_geom::{Edge, Edges};
 use std::alloc::{AllocError as OutOfMemory, Global};
 
 /// Takes the next leaf; gives whether there was one.
-fn pass_leaf(leaves: &mut Leaves) -> Result<bool, OutOfMemory>
-    ensures kept { (leaves.new.most_points ≡ leaves.old.most_points)
-        × (leaves.new.overlap ≡ leaves.old.overlap) }
+fn pass_leaf(
+    alloc: Global,
+    whole: &[Edge],
+    settings: &Settings,
+    waiting: &mut Vec<Batches>,
+) -> Result<bool, OutOfMemory>
+    requires { AreWaiting whole.now waiting.old.items }
+    ensures waiting { AreWaiting whole.now waiting.new.items }
     ensures passed { IfOk result (λ passed. passed ≡ true → (leaf : Leaf)
-        × IsNextLeaf leaves.old.most_points leaves.old.overlap leaves.old.waiting leaf
-        leaves.new.waiting) }
-    ensures none { IfOk result (λ passed. passed ≡ false → leaves.old.waiting ≡ []) }
+        × IsNextLeaf settings.now.most_points settings.now.overlap
+        (lists_in whole.now waiting.old.items) leaf (lists_in whole.now waiting.new.items)) }
+    ensures none { IfOk result (λ passed. passed ≡ false → waiting.old.items ≡ []) }
 {
-    match leaves.next()? {
+    match next_leaf(alloc, whole, settings, waiting)? {
         None => Ok(false),
         Some(_) => Ok(true),
     }
 }
 
-/// How many leaves are still to come; refused if they are more than `most`.
-fn count_left(leaves: &mut Leaves, most: u64) -> Result<u64, SplitError>
+/// How many leaves lists that wait have; refused if they are more than `most_leaves`.
+fn count_waiting(
+    alloc: Global,
+    whole: &[Edge],
+    settings: &Settings,
+    waiting: &mut Vec<Batches>,
+) -> Result<u64, SplitError>
+    requires { AreWaiting whole.now waiting.old.items }
     ensures counted { IfOk result (λ n. (ls : List Leaf)
-        × AreLeft leaves.old.most_points leaves.old.overlap leaves.old.waiting ls
-        × (n ≡ length ls) × (n ≤ most)) }
-    ensures many { IfErr result (λ e. (m : ℕ) → e ≡ TooManyPieces m → (m ≡ most)
-        × HaveMoreLeft leaves.old.most_points leaves.old.overlap most leaves.old.waiting) }
+        × AreLeft settings.now.most_points settings.now.overlap
+        (lists_in whole.now waiting.old.items) ls
+        × (n ≡ length ls) × (n ≤ settings.now.most_leaves)) }
+    ensures many { IfErr result (λ e. (m : ℕ) → e ≡ TooManyPieces m
+        → (m ≡ settings.now.most_leaves)
+        × HaveMoreLeft settings.now.most_points settings.now.overlap settings.now.most_leaves
+        (lists_in whole.now waiting.old.items)) }
 {
     // By law: there are leaves after one too many.
     split_trees_exist();
+    let most = settings.most_leaves;
     for count in 0..most {
-        if !pass_leaf(leaves)? {
+        if !pass_leaf(alloc, whole, settings, waiting)? {
             return Ok(count);
         }
     }
-    if pass_leaf(leaves)? {
+    if pass_leaf(alloc, whole, settings, waiting)? {
         return Err(SplitError::TooManyPieces { most });
     }
     Ok(most)
@@ -76,8 +93,11 @@ pub fn count_leaves(alloc: Global, edges: &Edges, settings: &Settings) -> Result
         → (m ≡ settings.now.most_leaves) × HasMoreLeaves settings.now.most_points
         settings.now.overlap settings.now.most_leaves edges.now) }
 {
-    match Leaves::of_halves(alloc, edges, settings)? {
-        None => count_of_one(settings),
-        Some(mut leaves) => count_left(&mut leaves, settings.most_leaves),
+    let whole = edges.as_slice();
+    if !has_many(whole.len(), settings) {
+        return count_of_one(settings);
     }
+    let mut waiting = Vec::new(alloc);
+    waiting.push(Batches::of(alloc, whole)?)?;
+    count_waiting(alloc, whole, settings, &mut waiting)
 }

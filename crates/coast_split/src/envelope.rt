@@ -1,11 +1,23 @@
 //! The envelope of a list of edges, and where it is cut.
-ghost use Rattle.std.specs.Prelude.{◌≡◌, ◌≤◌, ◌*◌, ◌+ℤ◌, ◌-ℤ◌, pos, unsigned_abs};
+ghost use Rattle.std.specs.Prelude.{◌≡◌, ◌≤◌, ◌*◌, ◌+ℤ◌, ◌-ℤ◌, List, pos, unsigned_abs};
 ghost use Rattle.std.specs.Int.{int_div_euclid};
 ghost use Rattle.plane.specs.Sign.{is_minus, sign};
-ghost use Rattle.coast_split.specs.Envelope.{IsSmall, envelope_at, envelope_of, joined_envelope, longer_in, middle_in, width_in};
+ghost use Rattle.osm_geom.specs.declared.edge.Edge.{Edge};
+ghost use Rattle.coast_split.specs.Batches.{AreAt, placing_by};
+ghost use Rattle.coast_split.specs.Envelope.{IsSmall, envelope_at, envelope_of, high_in, joined_envelope, longer_in, low_in, middle_in, width_in};
 ghost use Rattle.coast_split.specs.SplitTree.{greater, is_wide, lesser};
 
-use osm_geom::{Axis, Edge, Point, ceiling_at, floor_at};
+use osm_geom::{Axis, Cut, Edge, Point, Side, ceiling_at, floor_at};
+
+/// How edges lie to the kept side of a cut line.
+pub(crate) enum Placing {
+    /// All strictly on the side.
+    Kept,
+    /// None with a point strictly on the side.
+    Beyond,
+    /// In any way.
+    Across,
+}
 
 /// The least rectangle of whole coordinates in which a list of edges lies.
 #[derive(Clone, Copy)]
@@ -37,6 +49,19 @@ fn is_less(a: i64, b: i64) -> bool
     a < b
 }
 
+/// How edges lie to a cut line, by two tests.
+fn placing_by(kept: bool, beyond: bool) -> Placing
+    ensures { result ≡ placing_by kept beyond }
+{
+    if kept {
+        Placing::Kept
+    } else if beyond {
+        Placing::Beyond
+    } else {
+        Placing::Across
+    }
+}
+
 /// The whole number in the middle of two; of two such the lesser.
 fn between(a: i64, b: i64) -> i64
     requires first { unsigned_abs a ≤ 1_800_000_000 }
@@ -61,7 +86,7 @@ fn envelope_at(p: &Point) -> Envelope
 
 impl Envelope {
     /// The least that holds both.
-    fn joined(self, other: Envelope) -> Envelope
+    pub(crate) fn joined(self, other: Envelope) -> Envelope
         ensures { result ≡ joined_envelope self other }
     {
         Envelope {
@@ -69,6 +94,39 @@ impl Envelope {
             high_x: greater(self.high_x, other.high_x),
             low_y: lesser(self.low_y, other.low_y),
             high_y: greater(self.high_y, other.high_y),
+        }
+    }
+
+    /// Where its side on an axis begins.
+    fn low(&self, axis: Axis) -> i64
+        ensures { result ≡ low_in axis self.now }
+    {
+        match axis {
+            Axis::X => self.low_x,
+            Axis::Y => self.low_y,
+        }
+    }
+
+    /// Where its side on an axis ends.
+    fn high(&self, axis: Axis) -> i64
+        ensures { result ≡ high_in axis self.now }
+    {
+        match axis {
+            Axis::X => self.high_x,
+            Axis::Y => self.high_y,
+        }
+    }
+
+    /// How the edges that have this envelope lie to a cut line.
+    pub(crate) fn placing(&self, cut: Cut, side: Side) -> Placing
+        ensures { (es : List Edge) → self.now ≡ envelope_of es → AreAt cut side result es }
+    {
+        let at = i64::from(cut.at);
+        let low = self.low(cut.axis);
+        let high = self.high(cut.axis);
+        match side {
+            Side::Low => placing_by(is_less(high, at), !is_less(low, at)),
+            Side::High => placing_by(is_less(at, low), !is_less(at, high)),
         }
     }
 

@@ -4,66 +4,31 @@ ghost use Rattle.std.specs.Ordering.{is_lt};
 ghost use Rattle.plane.specs.Sign.{is_plus};
 ghost use Rattle.osm_geom.specs.declared.edge.Edge.{Edge};
 ghost use Rattle.osm_geom.specs.Cut.{carrier_of_cut};
-ghost use Rattle.osm_geom.specs.declared.cut.Side.TheVariants.{High, Low};
 ghost use Rattle.osm_lattice.specs.OrderLaws.{ordering_of};
 ghost use Rattle.osm_geom.specs.InPlane.Sided.{IsSided};
+ghost use Rattle.coast_split.specs.Batches.{AddsPortions, AreBatches, IsBatch, batch_edges, batched_edges};
 ghost use Rattle.coast_split.specs.Half.{ArePortions, IsHalf, IsLink, line_order, runs_forward};
 ghost use Rattle.coast_split.specs.HalfCount.{CountsAsKept, CountsNothingBeyond};
 ghost use Rattle.coast_split.specs.Walk.{AddsLink, AddsWalk, AddsWalked, AreSortedEnds, IsEndOnLine, end_on, ends_on, is_skipped};
 
+use crate::batches::{Batch, Batches};
+use crate::envelope::Placing;
 use crate::portion::portion;
 use osm_geom::{Axis, Carrier, Cut, Edge, Edges, Point, Side, compare_points, compare_to_cut};
 use std::alloc::{AllocError as OutOfMemory, Global};
 use std::cmp::Ordering;
 
-/// The halves of a list that is cut.
-#[derive(Drop)]
-pub(crate) struct Halves {
-    pub(crate) low: Edges,
-    pub(crate) high: Edges,
-}
-
 /// The portions of the edges that have one.
 fn portions(alloc: Global, edges: &[Edge], cut: Cut, side: Side) -> Result<Edges, OutOfMemory>
     ensures { IfOk result (λ list. ArePortions cut side edges.now list) }
 {
-    let mut portions = Edges::with_capacity(alloc, edges.len() / 2)?;
+    let mut portions = Edges::with_capacity(alloc, edges.len())?;
     for e in edges {
         if let Some(t) = portion(e, cut, side) {
             portions.push(t)?;
         }
     }
     Ok(portions)
-}
-
-/// The portions of edges on both sides, each beyond a cut of its own.
-///
-/// The low ones take the place of the edges, so only the high ones need memory.
-fn portions_on_both(
-    alloc: Global,
-    mut edges: Vec<Edge>,
-    low: Cut,
-    high: Cut,
-) -> Result<Halves, OutOfMemory>
-    ensures low { IfOk result (λ both. ArePortions low Low edges.items both.low) }
-    ensures high { IfOk result (λ both. ArePortions high High edges.items both.high) }
-{
-    let mut highs = Edges::with_capacity(alloc, edges.len() / 2)?;
-    let mut kept = 0;
-    for place in 0..edges.len() {
-        if let Some(t) = portion(&edges[place], high, Side::High) {
-            highs.push(t)?;
-        }
-        if let Some(t) = portion(&edges[place], low, Side::Low) {
-            edges[kept] = t;
-            kept += 1;
-        }
-    }
-    edges.truncate(kept);
-    Ok(Halves {
-        low: Edges::from_vec(edges),
-        high: highs,
-    })
 }
 
 /// Adds a point that is on the line.
@@ -76,16 +41,15 @@ fn push_end(ends: &mut Vec<Point>, p: &Point, cut: Cut) -> Result<(), OutOfMemor
     Ok(())
 }
 
-/// The ends of edges that are on the line.
-fn line_ends(alloc: Global, parts: &[Edge], cut: Cut) -> Result<Vec<Point>, OutOfMemory>
-    ensures { IfOk result (λ v. v.items ≡ ends_on cut parts.now) }
+/// Adds the ends of edges that are on the line.
+fn push_ends(ends: &mut Vec<Point>, edges: &[Edge], cut: Cut) -> Result<(), OutOfMemory>
+    ensures { OnOk result (ends.new.items ≡ ends.old.items ++ ends_on cut edges.now) }
 {
-    let mut ends = Vec::new(alloc);
-    for t in parts {
-        push_end(&mut ends, &t.from, cut)?;
-        push_end(&mut ends, &t.to, cut)?;
+    for e in edges {
+        push_end(ends, &e.from, cut)?;
+        push_end(ends, &e.to, cut)?;
     }
-    Ok(ends)
+    Ok(())
 }
 
 /// Whether the side is on the left of the line when the line runs in the order of points.
@@ -205,18 +169,13 @@ fn compare_ends(p: Point, q: Point, cut: Cut, side: Side) -> Ordering
     compare_along(p, q, cut, side)
 }
 
-/// The ends of edges that are on the line, in order along it.
-fn sorted_ends(
-    alloc: Global,
-    parts: &[Edge],
-    cut: Cut,
-    side: Side,
-) -> Result<Vec<Point>, OutOfMemory>
-    ensures { IfOk result (λ v. AreSortedEnds cut side parts.now v.items) }
+/// Puts ends in order along the line.
+fn sort_ends(ends: &mut Vec<Point>, cut: Cut, side: Side) -> Result<(), OutOfMemory>
+    ensures { OnOk result ((ts : List Edge) → ends.old.items ≡ ends_on cut ts
+        → AreSortedEnds cut side ts ends.new.items) }
 {
-    let mut ends = line_ends(alloc, parts, cut)?;
     ends.sort_by(|p, q| compare_ends(*p, *q, cut, side))?;
-    Ok(ends)
+    Ok(())
 }
 
 /// Adds the edges on the line.
@@ -230,14 +189,125 @@ fn push_links(edges: &mut Edges, ends: &[Point], cut: Cut, side: Side) -> Result
     }
 }
 
-/// Portions of edges with the edges on the line that close them.
-fn closed(alloc: Global, portions: Edges, cut: Cut, side: Side) -> Result<Edges, OutOfMemory>
-    ensures { IfOk result (λ hs. (es : List Edge) → ArePortions cut side es portions
-        → IsHalf cut side es hs) }
+/// The edges on the line that close portions which have these ends there.
+fn links(alloc: Global, ends: Vec<Point>, cut: Cut, side: Side) -> Result<Edges, OutOfMemory>
+    requires { (ts : List Edge) × (ends.items ≡ ends_on cut ts) }
+    ensures { IfOk result (λ links. (es ts : List Edge) → ArePortions cut side es ts
+        → ends.items ≡ ends_on cut ts → IsHalf cut side es (ts ++ links)) }
 {
-    let mut half = portions;
-    let ends = sorted_ends(alloc, half.as_slice(), cut, side)?;
-    push_links(&mut half, ends.as_slice(), cut, side)?;
+    let mut sorted = ends;
+    sort_ends(&mut sorted, cut, side)?;
+    let mut links = Edges::new(alloc);
+    push_links(&mut links, &sorted, cut, side)?;
+    Ok(links)
+}
+
+/// BatchedPortions in batches, and their ends on the line.
+#[derive(Drop)]
+struct BatchedPortions {
+    batches: Batches,
+    ends: Vec<Point>,
+}
+
+impl BatchedPortions {
+    /// No portions.
+    fn new(alloc: Global) -> BatchedPortions
+        ensures batches { (whole : List Edge) → AreBatches whole result.batches
+            × (batched_edges whole result.batches ≡ []) }
+        ensures ends { result.ends.items ≡ [] }
+    {
+        BatchedPortions {
+            batches: Batches::new(alloc),
+            ends: Vec::new(alloc),
+        }
+    }
+
+    /// Adds those of some edges, one by one.
+    fn add_each(
+        &mut self,
+        alloc: Global,
+        edges: &[Edge],
+        cut: Cut,
+        side: Side,
+    ) -> Result<(), OutOfMemory>
+        ensures { OnOk result ((whole : List Edge) → AreBatches whole self.old.batches
+            → AddsPortions whole cut side edges.now self.old.batches self.new.batches
+            self.old.ends.items self.new.ends.items) }
+    {
+        let portions = portions(alloc, edges, cut, side)?;
+        push_ends(&mut self.ends, portions.as_slice(), cut)?;
+        if let Some(batch) = Batch::own(portions) {
+            self.batches.push(batch)?;
+        }
+        Ok(())
+    }
+
+    /// Adds those of a batch.
+    fn add(
+        &mut self,
+        alloc: Global,
+        whole: &[Edge],
+        batch: &Batch,
+        cut: Cut,
+        side: Side,
+    ) -> Result<(), OutOfMemory>
+        requires batches { AreBatches whole.now self.old.batches }
+        requires batch { IsBatch whole.now batch.now }
+        ensures { OnOk result (AddsPortions whole.now cut side (batch_edges whole.now batch.now)
+            self.old.batches self.new.batches self.old.ends.items self.new.ends.items) }
+    {
+        match batch.placing(cut, side) {
+            Placing::Beyond => Ok(()),
+            Placing::Kept => {
+                let copy = batch.copied(alloc)?;
+                self.batches.push(copy)
+            }
+            Placing::Across => self.add_each(alloc, batch.edges(whole), cut, side),
+        }
+    }
+}
+
+/// The portions of a list in batches.
+fn portions_in(
+    alloc: Global,
+    whole: &[Edge],
+    list: &Batches,
+    cut: Cut,
+    side: Side,
+) -> Result<BatchedPortions, OutOfMemory>
+    requires { AreBatches whole.now list.now }
+    ensures batches { IfOk result (λ portions. AreBatches whole.now portions.batches) }
+    ensures portions { IfOk result (λ portions. ArePortions cut side
+        (batched_edges whole.now list.now) (batched_edges whole.now portions.batches)) }
+    ensures ends { IfOk result (λ portions. portions.ends.items
+        ≡ ends_on cut (batched_edges whole.now portions.batches)) }
+{
+    let mut portions = BatchedPortions::new(alloc);
+    for batch in &list.batches {
+        portions.add(alloc, whole, batch, cut, side)?;
+    }
+    Ok(portions)
+}
+
+/// The half of a list in batches.
+pub(crate) fn half_in_batches(
+    alloc: Global,
+    whole: &[Edge],
+    list: &Batches,
+    cut: Cut,
+    side: Side,
+) -> Result<Batches, OutOfMemory>
+    requires { AreBatches whole.now list.now }
+    ensures batches { IfOk result (λ half. AreBatches whole.now half) }
+    ensures half { IfOk result (λ half. IsHalf cut side (batched_edges whole.now list.now)
+        (batched_edges whole.now half)) }
+{
+    let BatchedPortions { batches, ends } = portions_in(alloc, whole, list, cut, side)?;
+    let mut half = batches;
+    let links = links(alloc, ends, cut, side)?;
+    if let Some(batch) = Batch::own(links) {
+        half.push(batch)?;
+    }
     Ok(half)
 }
 
@@ -253,24 +323,9 @@ pub fn half(alloc: Global, edges: &Edges, cut: Cut, side: Side) -> Result<Edges,
     ensures kept { IfOk result (λ hs. CountsAsKept cut side edges.now hs) }
     ensures beyond { IfOk result (λ hs. CountsNothingBeyond cut side hs) }
 {
-    let portions = portions(alloc, edges.as_slice(), cut, side)?;
-    let half = closed(alloc, portions, cut, side)?;
-    Ok(half)
-}
-
-/// Both halves of a list that isn't needed afterwards, each beyond a cut of its own. The low one takes its place.
-pub(crate) fn both_halves(
-    alloc: Global,
-    edges: Edges,
-    low: Cut,
-    high: Cut,
-) -> Result<Halves, OutOfMemory>
-    requires { IsSided edges }
-    ensures low { IfOk result (λ both. IsHalf low Low edges both.low × IsSided both.low) }
-    ensures high { IfOk result (λ both. IsHalf high High edges both.high × IsSided both.high) }
-{
-    let portions = portions_on_both(alloc, edges.into_vec(), low, high)?;
-    let high = closed(alloc, portions.high, high, Side::High)?;
-    let low = closed(alloc, portions.low, low, Side::Low)?;
-    Ok(Halves { low, high })
+    let whole = edges.as_slice();
+    let list = Batches::of(alloc, whole)?;
+    let half = half_in_batches(alloc, whole, &list, cut, side)?;
+    let edges = half.edges(alloc, whole)?;
+    Ok(edges)
 }

@@ -1,110 +1,103 @@
 //! The leaves of a list in turn: each is cut out when it is asked for.
-ghost use Rattle.std.specs.Prelude.{◌≡◌, ◌<◌, ◌∷◌, [], ℕ, All, IfNone, IfOk, IfSome, List, MatchOption, Some, false, reverse};
-ghost use Rattle.osm_geom.specs.declared.edge.Edge.{Edge};
+ghost use Rattle.std.specs.Prelude.{◌≡◌, ◌∷◌, [], All, IfNone, IfOk, IfSome, Some};
 ghost use Rattle.osm_geom.specs.InPlane.Sided.{IsSided};
+ghost use Rattle.coast_split.specs.Batches.{batched_edges};
 ghost use Rattle.coast_split.specs.LeavesLeft.{IsNextLeaf};
-ghost use Rattle.coast_split.specs.SplitTree.{is_split};
-ghost use Rattle.coast_split.specs.Splitting.{AreSidedHalves, HaveSameLeaves, IsCutOff, IsMiddle};
+ghost use Rattle.coast_split.specs.SplitTree.{leaf_of};
+ghost use Rattle.coast_split.specs.Splitting.{IsCutOff, IsMiddle};
+ghost use Rattle.coast_split.specs.Waiting.{AreWaiting, IsWaiting, lists_in};
 
-use crate::halves::{Halves, both_halves, half};
-use crate::leaves::{Leaf, Settings, high_cut, is_large, low_cut, middle_of};
-use osm_geom::{Cut, Edges, Side};
+use crate::batches::Batches;
+use crate::halves::half_in_batches;
+use crate::leaves::{Leaf, Settings, has_many, high_cut, low_cut};
+use osm_geom::{Cut, Edge, Edges, Side};
 use std::alloc::{AllocError as OutOfMemory, Global};
 use std::marker::Model;
 
-/// Cuts a list.
-fn halves_at(
+/// Cuts a list. Its high half waits, and the low one is given.
+fn cut_off(
     alloc: Global,
-    edges: &Edges,
+    whole: &[Edge],
+    settings: &Settings,
+    list: &Batches,
     middle: Cut,
-    settings: &Settings,
-) -> Result<Halves, OutOfMemory>
-    requires sided { IsSided edges.now }
-    requires cut { IsMiddle settings.now.most_points settings.now.overlap edges.now (Some middle) }
-    ensures { IfOk result (λ halves. AreSidedHalves settings.now.most_points settings.now.overlap
-        edges.now halves.low halves.high) }
+    waiting: &mut Vec<Batches>,
+) -> Result<Batches, OutOfMemory>
+    requires part { IsWaiting whole.now list.now }
+    requires cut { IsMiddle settings.now.most_points settings.now.overlap
+        (batched_edges whole.now list.now) (Some middle) }
+    requires waiting { AreWaiting whole.now waiting.old.items }
+    ensures waiting { AreWaiting whole.now waiting.new.items }
+    ensures low { IfOk result (IsWaiting whole.now) }
+    ensures cut { IfOk result (λ low. IsCutOff settings.now.most_points settings.now.overlap
+        (batched_edges whole.now list.now) (lists_in whole.now waiting.old.items)
+        (batched_edges whole.now low) (lists_in whole.now waiting.new.items)) }
 {
-    let high = half(alloc, edges, high_cut(middle, settings.overlap), Side::High)?;
-    let low = half(alloc, edges, low_cut(middle, settings.overlap), Side::Low)?;
-    Ok(Halves { low, high })
+    let high_line = high_cut(middle, settings.overlap);
+    let high = half_in_batches(alloc, whole, list, high_line, Side::High)?;
+    let low_line = low_cut(middle, settings.overlap);
+    let low = half_in_batches(alloc, whole, list, low_line, Side::Low)?;
+    waiting.push(high)?;
+    Ok(low)
 }
 
-/// Cuts a list that isn't needed afterwards: its low half takes its place.
-fn halves_of(
+/// Takes the next leaf of lists that wait, the next one last; None if none is left.
+///
+/// A list is cut, and each low half, until that is a leaf.
+pub(crate) fn next_leaf(
     alloc: Global,
-    edges: Edges,
-    middle: Cut,
+    whole: &[Edge],
     settings: &Settings,
-) -> Result<Halves, OutOfMemory>
-    requires sided { IsSided edges }
-    requires cut { IsMiddle settings.now.most_points settings.now.overlap edges (Some middle) }
-    ensures { IfOk result (λ halves. AreSidedHalves settings.now.most_points settings.now.overlap
-        edges halves.low halves.high) }
+    waiting: &mut Vec<Batches>,
+) -> Result<Option<Batches>, OutOfMemory>
+    requires { AreWaiting whole.now waiting.old.items }
+    ensures waiting { AreWaiting whole.now waiting.new.items }
+    ensures part { IfOk result (λ next. IfSome next (IsWaiting whole.now)) }
+    ensures leaf { IfOk result (λ next. IfSome next (λ list.
+        IsNextLeaf settings.now.most_points settings.now.overlap
+        (lists_in whole.now waiting.old.items)
+        (leaf_of settings.now.most_points (batched_edges whole.now list))
+        (lists_in whole.now waiting.new.items))) }
+    ensures none { IfOk result (λ next. IfNone next (waiting.old.items ≡ [])) }
+    ensures ended { IfOk result (λ next. IfNone next (waiting.new.items ≡ [])) }
 {
-    let low = low_cut(middle, settings.overlap);
-    let high = high_cut(middle, settings.overlap);
-    let halves = both_halves(alloc, edges, low, high)?;
-    Ok(halves)
-}
-
-/// Puts the high half of a list among those that wait, and gives the low one.
-fn let_wait(halves: Halves, waiting: &mut Vec<Edges>) -> Result<Edges, OutOfMemory>
-    requires high { IsSided halves.high }
-    requires waiting { All IsSided waiting.old.items }
-    ensures waiting { All IsSided waiting.new.items }
-    ensures low { IfOk result (λ low. (m o : ℕ) (es : List Edge)
-        → AreSidedHalves m o es halves.low halves.high
-        → IsCutOff m o es (reverse waiting.old.items) low (reverse waiting.new.items)) }
-{
-    waiting.push(halves.high)?;
-    Ok(halves.low)
-}
-
-/// Cuts a list, and each low half, until it reaches the first leaf. The high halves wait.
-fn first_leaf(
-    alloc: Global,
-    list: Edges,
-    settings: &Settings,
-    waiting: &mut Vec<Edges>,
-) -> Result<Leaf, OutOfMemory>
-    requires list { IsSided list }
-    requires waiting { All IsSided waiting.old.items }
-    ensures waiting { All IsSided waiting.new.items }
-    ensures sided { IfOk result (λ leaf. IsSided leaf.edges) }
-    ensures leaf { IfOk result (λ leaf. IsNextLeaf settings.now.most_points settings.now.overlap
-        (list ∷ reverse waiting.old.items) leaf (reverse waiting.new.items)) }
-{
-    let mut edges = list;
-    while let Some(middle) = middle_of(edges.as_slice(), settings) {
-        let halves = halves_of(alloc, edges, middle, settings)?;
-        edges = let_wait(halves, waiting)?;
+    let Some(mut list) = waiting.pop() else {
+        return Ok(None);
+    };
+    while let Some(middle) = list.middle(settings) {
+        list = cut_off(alloc, whole, settings, &list, middle, waiting)?;
     }
-    let large = is_large(edges.as_slice(), settings);
-    Ok(Leaf { edges, large })
+    Ok(Some(list))
 }
 
 /// The leaves of a list, handed out one after the other.
 ///
-/// Contracts see the lists that are still to be cut. One path of the split tree is held: the waiting high halves of the
-/// lists that were cut on the way to the last leaf.
+/// Contracts see the lists that are still to be cut. Held are the whole list, and on one path of the split tree the high halves
+/// that wait.
 #[derive(Drop)]
 pub struct Leaves {
     alloc: Global,
     settings: Settings,
-    // The next one comes last.
-    waiting: Vec<Edges>,
+    // A list that has so few edges that it isn't cut.
+    only: Option<Edges>,
+    whole: Edges,
+    // Parts of the whole list. The next one comes last.
+    waiting: Vec<Batches>,
 }
 
 impl Model for Leaves {
-    ghost use Rattle.std.specs.Prelude.{All, reverse};
-    ghost use Rattle.osm_geom.specs.InPlane.Sided.{IsSided};
+    ghost use Rattle.std.specs.Prelude.{IfSome, false, ◌≡◌, ◌++◌};
+    ghost use Rattle.coast_split.specs.SplitTree.{is_large};
     ghost use Rattle.coast_split.specs.ToCut.{ToCut};
+    ghost use Rattle.coast_split.specs.Splitting.{IsCutOff, IsMiddle};
+    ghost use Rattle.coast_split.specs.Waiting.{AreWaiting, lists_in, lists_of_only};
+    ghost use Rattle.osm_geom.specs.InPlane.Sided.{IsSided};
 
     ghost Value = { ToCut };
 
-    ghost view = { λ leaves. record { most_points = leaves.settings.most_points; overlap = leaves.settings.overlap; waiting = reverse leaves.waiting.items } };
+    ghost view = { λ leaves. record { most_points = leaves.settings.most_points; overlap = leaves.settings.overlap; waiting = lists_of_only leaves.only ++ lists_in leaves.whole leaves.waiting.items } };
 
-    ghost invariant = { λ leaves. All IsSided leaves.waiting.items };
+    ghost invariant = { λ leaves. AreWaiting leaves.whole leaves.waiting.items × IfSome leaves.only (λ es. IsSided es × (is_large leaves.settings.most_points es ≡ false)) };
 }
 
 impl Leaves {
@@ -117,40 +110,25 @@ impl Leaves {
           waiting = edges ∷ [];
         }) }
     {
+        let settings = *settings;
         let mut waiting = Vec::new(alloc);
-        waiting.push(edges)?;
+        if !has_many(edges.as_slice().len(), &settings) {
+            return Ok(Leaves {
+                alloc,
+                settings,
+                only: Some(edges),
+                whole: Edges::new(alloc),
+                waiting,
+            });
+        }
+        waiting.push(Batches::of(alloc, edges.as_slice())?)?;
         Ok(Leaves {
             alloc,
-            settings: *settings,
+            settings,
+            only: None,
+            whole: edges,
             waiting,
         })
-    }
-
-    /// The leaves of a sided list that is lent; None if it isn't cut.
-    pub(crate) fn of_halves(
-        alloc: Global,
-        edges: &Edges,
-        settings: &Settings,
-    ) -> Result<Option<Leaves>, OutOfMemory>
-        requires { IsSided edges.now }
-        ensures { IfOk result (λ made. MatchOption made (is_split settings.now.most_points
-            settings.now.overlap edges.now ≡ false) (λ leaves.
-            (leaves.most_points ≡ settings.now.most_points)
-            × (leaves.overlap ≡ settings.now.overlap)
-            × HaveSameLeaves settings.now.most_points settings.now.overlap (edges.now ∷ [])
-            leaves.waiting)) }
-    {
-        let Some(middle) = middle_of(edges.as_slice(), settings) else {
-            return Ok(None);
-        };
-        let mut waiting = Vec::new(alloc);
-        let low = let_wait(halves_at(alloc, edges, middle, settings)?, &mut waiting)?;
-        waiting.push(low)?;
-        Ok(Some(Leaves {
-            alloc,
-            settings: *settings,
-            waiting,
-        }))
     }
 
     /// Takes the next leaf; None if none is left.
@@ -163,10 +141,19 @@ impl Leaves {
         ensures ended { IfOk result (λ next. IfNone next (self.new.waiting ≡ [])) }
         ensures sided { IfOk result (λ next. IfSome next (λ leaf. IsSided leaf.edges)) }
     {
-        let Some(edges) = self.waiting.pop() else {
+        if let Some(edges) = self.only.take() {
+            return Ok(Some(Leaf {
+                edges,
+                large: false,
+            }));
+        }
+        let whole = self.whole.as_slice();
+        let next = next_leaf(self.alloc, whole, &self.settings, &mut self.waiting)?;
+        let Some(list) = next else {
             return Ok(None);
         };
-        let leaf = first_leaf(self.alloc, edges, &self.settings, &mut self.waiting)?;
-        Ok(Some(leaf))
+        let large = has_many(list.edge_count, &self.settings);
+        let edges = list.edges(self.alloc, whole)?;
+        Ok(Some(Leaf { edges, large }))
     }
 }

@@ -1,12 +1,11 @@
 //! How areas are split into pieces, and where a list is cut.
-ghost use Rattle.std.specs.Prelude.{◌≡◌, ◌≤◌, ◌-ℤ◌, pos, unsigned_abs};
+ghost use Rattle.std.specs.Prelude.{◌≡◌, ◌≤◌, ◌-ℤ◌, List, length, pos, unsigned_abs};
 ghost use Rattle.plane.specs.Sign.{is_plus, sign};
+ghost use Rattle.osm_geom.specs.declared.edge.Edge.{Edge};
 ghost use Rattle.coast_split.specs.declared.leaves.SplitError.TheVariants.{OutOfMemory};
 ghost use Rattle.coast_split.specs.SplitTree.{high_cut, is_large, low_cut};
-ghost use Rattle.coast_split.specs.Splitting.{IsMiddle};
 
-use crate::envelope::{envelope_of, is_wide};
-use osm_geom::{Cut, Edge, Edges};
+use osm_geom::{Cut, Edges};
 use std::alloc::{AllocError, AllocFailed};
 
 /// How areas are split.
@@ -66,30 +65,13 @@ fn is_more(a: u64, b: u64) -> bool
     a > b
 }
 
-/// Whether there are more edges than are wanted.
-pub(crate) fn is_large(edges: &[Edge], settings: &Settings) -> bool
-    ensures { result ≡ is_large settings.now.most_points edges.now }
+/// Whether a list of so many edges has more than are wanted.
+pub(crate) fn has_many(edge_count: usize, settings: &Settings) -> bool
+    ensures { (edges : List Edge) → edge_count ≡ length edges
+        → result ≡ is_large settings.now.most_points edges }
 {
     let most = u64::from(settings.most_points);
-    !is_more(1, most) && is_more(edges.len() as u64, most)
-}
-
-/// The middle of the longer side of a list that is cut; None for a leaf.
-pub(crate) fn middle_of(edges: &[Edge], settings: &Settings) -> Option<Cut>
-    ensures { IsMiddle settings.now.most_points settings.now.overlap edges.now result }
-{
-    if !is_large(edges, settings) {
-        return None;
-    }
-    let envelope = envelope_of(edges);
-    let axis = envelope.longer();
-    if !is_wide(envelope.width(axis), settings.overlap) {
-        return None;
-    }
-    Some(Cut {
-        axis,
-        at: envelope.middle(axis) as i32,
-    })
+    !is_more(1, most) && is_more(edge_count as u64, most)
 }
 
 /// Where the low half ends.

@@ -1,6 +1,7 @@
 //! Areas cut along lines of whole coordinate: halves and leaves.
 #![tactic(auto)]
 
+mod batches;
 mod counting;
 mod envelope;
 mod halves;

@@ -104,6 +104,51 @@ fn lists_that_are_cut(rt: HostRuntime) -> Result<(), Fail> {
     Ok(())
 }
 
+/// A closed line round what lies between 0 and 8 high. Below it has a point at each even x, and one at each corner.
+fn row(alloc: Global, from: i32, to: i32) -> Result<String, Fail> {
+    let mut line = String::new(alloc);
+    for x in from..=to {
+        if x == from || x == to || x % 2 == 0 {
+            let place = format!(in alloc; " {x},0")?;
+            line.push_str(&place)?;
+        }
+    }
+    let above = format!(in alloc; " {to},8 {from},8 {from},0")?;
+    line.push_str(&above)?;
+    Ok(line)
+}
+
+#[test]
+fn long_lists_that_are_cut(rt: HostRuntime) -> Result<(), Fail> {
+    // 203 edges, which are cut in batches: of most of them all edges are kept, or none
+    let whole = row(rt.alloc(), 0, 400)?;
+    // at a point without overlap, beside points, at points
+    for (overlap, low_end, high_start) in [(0, 200, 200), (5, 205, 195), (10, 210, 190)] {
+        let low = row(rt.alloc(), 0, low_end)?;
+        let high = row(rt.alloc(), high_start, 400)?;
+        let wanted = format!(in rt.alloc(); "{low}|{high}")?;
+        assert!(rt;
+            has_leaves(rt.alloc(), &whole, &settings(150, overlap, 4_194_304), &wanted)?,
+            "{overlap}"
+        );
+    }
+    Ok(())
+}
+
+#[test]
+fn long_lists_that_are_cut_twice(rt: HostRuntime) -> Result<(), Fail> {
+    let whole = row(rt.alloc(), 0, 400)?;
+    let first = row(rt.alloc(), 0, 100)?;
+    let second = row(rt.alloc(), 100, 200)?;
+    let third = row(rt.alloc(), 200, 300)?;
+    let fourth = row(rt.alloc(), 300, 400)?;
+    let wanted = format!(in rt.alloc(); "{first}|{second}|{third}|{fourth}")?;
+    assert!(rt;
+        has_leaves(rt.alloc(), &whole, &settings(60, 0, 4_194_304), &wanted)?
+    );
+    Ok(())
+}
+
 #[test]
 fn slivers_and_sides_that_are_cut(rt: HostRuntime) -> Result<(), Fail> {
     let rows = [
