@@ -1,4 +1,3 @@
-mod AddedRounds
 mod AlongPieces
 mod ApartEdges
 mod Clockwise
@@ -18,6 +17,7 @@ pub mod PlaneRings
 mod RankOrder
 mod RingListLifts
 mod RingLists
+mod SortedRounds
 mod Starts
 mod Succeed
 mod TurnedFrom

@@ -11,7 +11,7 @@ ghost use Rattle.osm_rings.specs.Departures.{AreClockwiseRound, AreDepartures, A
 use crate::departure::Departure;
 use crate::keys::guess_first;
 use crate::ranks::rank;
-use crate::rounds::rounds;
+use crate::rounds::sort_rounds;
 use osm_geom::{Dir, Edge, Point, clockwise, compare_points, order_points};
 use std::alloc::{AllocError as OutOfMemory, Global};
 use std::cmp::Ordering;
@@ -59,30 +59,11 @@ fn sorted<'a>(departures: Vec<Departure<'a>>) -> Result<Vec<Departure<'a>>, OutO
     Ok(departures)
 }
 
-/// The departures in order. Those that are ordered by their sort keys are put in order round each point, if that orders all.
-fn in_order_round<'a>(
-    alloc: Global,
-    departures: Vec<Departure<'a>>,
-) -> Result<Vec<Departure<'a>>, OutOfMemory>
-    ensures moved { IfOk result (λ v. IsPermutation departures.entry.items v.items) }
-    ensures rising { IfOk result (λ v. AreRising v.items) }
-    ensures round { IfOk result (λ v. AreClockwiseRound v.items) }
-{
-    let ordered = rounds(alloc, &departures)?;
-    if are_in_order(&ordered) {
-        return Ok(ordered);
-    }
-    sorted(departures)
-}
-
 /// The departures in order: by their sort keys alone, if that is their order, as when no two leave one point.
 ///
 /// Ways: departures that their sort keys put in order; those that also need directions round each point; all others by their
 /// points.
-fn in_order<'a>(
-    alloc: Global,
-    departures: Vec<Departure<'a>>,
-) -> Result<Vec<Departure<'a>>, OutOfMemory>
+fn in_order<'a>(departures: Vec<Departure<'a>>) -> Result<Vec<Departure<'a>>, OutOfMemory>
     ensures moved { IfOk result (λ v. IsPermutation departures.entry.items v.items) }
     ensures rising { IfOk result (λ v. AreRising v.items) }
     ensures round { IfOk result (λ v. AreClockwiseRound v.items) }
@@ -92,7 +73,11 @@ fn in_order<'a>(
     if are_in_order(&departures) {
         return Ok(departures);
     }
-    in_order_round(alloc, departures)
+    sort_rounds(&mut departures);
+    if are_in_order(&departures) {
+        return Ok(departures);
+    }
+    sorted(departures)
 }
 
 /// Whether an edge runs from its lower end to its upper one.
@@ -134,7 +119,7 @@ pub fn departures<'a>(alloc: Global, edges: &'a [Edge]) -> Result<Vec<Departure<
     list_departures(&mut up, &mut down, edges)?;
     up.append(&mut down)?;
     mem::drop(down);
-    in_order(alloc, up)
+    in_order(up)
 }
 
 /// Whether the departure before a place leaves an earlier point than p, and the one at the place doesn't.
