@@ -1,6 +1,6 @@
 //! Steps in order, searched near the place where the last search ended.
 
-ghost use Rattle.std.specs.Prelude.{◌≡◌, ◌<◌, ◌≤◌, ℕ, length, slice_index_or, true};
+ghost use Rattle.std.specs.Prelude.{◌≡◌, ◌<◌, ◌≤◌, ℕ, IfSome, length, slice_index_or, true};
 ghost use Rattle.std.specs.List.Sorted.{IsSorted};
 ghost use Rattle.std.specs.Ordering.{is_lt};
 ghost use Rattle.std.specs.declared.cmp.Ordering.TheVariants.{Greater, Less};
@@ -10,6 +10,9 @@ use crate::wrong_ways::Step;
 
 /// So many steps before a place are near it, and so many from it on.
 const NEAR: usize = 128;
+
+/// So many are searched before all are.
+const NOT_FAR: usize = 8192;
 
 /// Whether a step is there, and the place where a search for it ended. Only speed rests on the place.
 #[derive(Clone, Copy, Debug)]
@@ -67,17 +70,31 @@ fn is_below_rest(sorted: &[Step], to: usize, step: Step) -> bool
     to >= sorted.len() || is_less(step, sorted[to])
 }
 
+/// Searches so many steps before a place and so many from it on; None unless the step lies among them by order.
+fn sought_within(sorted: &[Step], near: usize, width: usize, step: Step) -> Option<Sought>
+    requires { IsSorted step_cmp sorted.now }
+    ensures { IfSome result (λ sought. sought.is_there ≡ is_one_of sorted.now step) }
+{
+    let from = near.saturating_sub(width).min(sorted.len());
+    let to = near.saturating_add(width).min(sorted.len());
+    if is_above_first(sorted, from, step) && is_below_rest(sorted, to, step) {
+        return Some(sought_between(sorted, from, to, step));
+    }
+    None
+}
+
 /// Searches steps in order for a step.
 ///
-/// Ways: those near the place, if it lies among them by order; all others by halves.
+/// Ways: those near the place; those not far from it; all others by halves.
 pub(crate) fn sought_near(sorted: &[Step], near: usize, step: Step) -> Sought
     requires { IsSorted step_cmp sorted.now }
     ensures { result.is_there ≡ is_one_of sorted.now step }
 {
-    let from = near.saturating_sub(NEAR).min(sorted.len());
-    let to = near.saturating_add(NEAR).min(sorted.len());
-    if is_above_first(sorted, from, step) && is_below_rest(sorted, to, step) {
-        return sought_between(sorted, from, to, step);
+    if let Some(sought) = sought_within(sorted, near, NEAR, step) {
+        return sought;
+    }
+    if let Some(sought) = sought_within(sorted, near, NOT_FAR, step) {
+        return sought;
     }
     sought_between(sorted, 0, sorted.len(), step)
 }
