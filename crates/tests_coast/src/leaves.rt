@@ -128,7 +128,12 @@ fn long_lists_that_are_cut(rt: HostRuntime) -> Result<(), Fail> {
         let high = row(rt.alloc(), high_start, 400)?;
         let wanted = format!(in rt.alloc(); "{low}|{high}")?;
         assert!(rt;
-            has_leaves(rt.alloc(), &whole, &settings(150, overlap, 4_194_304), &wanted)?,
+            has_leaves(
+                rt.alloc(),
+                &whole,
+                &settings(150, overlap, 4_194_304),
+                &wanted
+            )?,
             "{overlap}"
         );
     }
@@ -143,9 +148,7 @@ fn long_lists_that_are_cut_twice(rt: HostRuntime) -> Result<(), Fail> {
     let third = row(rt.alloc(), 200, 300)?;
     let fourth = row(rt.alloc(), 300, 400)?;
     let wanted = format!(in rt.alloc(); "{first}|{second}|{third}|{fourth}")?;
-    assert!(rt;
-        has_leaves(rt.alloc(), &whole, &settings(60, 0, 4_194_304), &wanted)?
-    );
+    assert!(rt; has_leaves(rt.alloc(), &whole, &settings(60, 0, 4_194_304), &wanted)?);
     Ok(())
 }
 
