@@ -18,17 +18,9 @@ use crate::ring_segments::closed_lines_are_even;
 use crate::wrong_ways::wrong_ways;
 use coast_rings::CoastRing;
 use osm_geom::{Edges, Seg, Segs, orders_are_exact};
-use osm_segments::{Cancelled, Outline, cancel};
+use osm_segments::{Outline, cancel_of};
 use osm_sides::direct;
 use std::alloc::{AllocError as OutOfMemory, Global};
-
-/// What cancelling makes of segments. They go.
-fn cancelled(alloc: Global, segs: Segs) -> Result<Cancelled, OutOfMemory>
-    ensures survivors { IfOk result (λ c. AreSurvivors segs c.survivors.items) }
-    ensures repeats { IfOk result (λ c. AreRepeats segs c.repeats.items) }
-{
-    cancel(alloc, segs.as_slice())
-}
 
 /// The edges of land: what is left of segments, directed so that land is on the left. Fails only if memory runs out.
 fn land_edges(alloc: Global, left: Vec<Seg>) -> Result<Edges, OutOfMemory>
@@ -55,7 +47,7 @@ pub fn land(alloc: Global, kept: &[CoastRing], segs: Segs) -> Result<Land, OutOf
 {
     closed_lines_are_even();
     orders_are_exact();
-    let left = cancelled(alloc, segs)?;
+    let left = cancel_of(alloc, segs.into_vec())?;
     let edges = land_edges(alloc, left.survivors)?;
     let wrong_way = wrong_ways(alloc, edges.as_slice(), kept)?;
     Ok(Land {

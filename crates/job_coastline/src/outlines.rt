@@ -55,46 +55,27 @@ fn has_water(asked: OutputPolygons) -> bool
     }
 }
 
-/// How many edges a polygon has.
-fn edge_count(polygon: &Polygon) -> usize {
-    let mut count = polygon.outer.as_slice().len();
-    for ring in polygon.inners.as_slice() {
-        count = count.saturating_add(ring.as_slice().len());
-    }
-    count
-}
-
-/// The edges of a polygon, ring by ring.
-fn edges_of(alloc: Global, polygon: &Polygon) -> Result<Edges, OutOfMemory>
-    ensures { IfOk result (λ edges. edges ≡ edges_in polygon.now) }
+/// The edges of a polygon, ring by ring, in the memory of its outer ring.
+fn edges_of(polygon: Polygon) -> Result<Edges, OutOfMemory>
+    ensures { IfOk result (λ edges. edges ≡ edges_in polygon) }
 {
-    let mut edges = Vec::with_capacity(alloc, edge_count(polygon))?;
-    edges.extend_from_slice(polygon.outer.as_slice())?;
-    for ring in polygon.inners.as_slice() {
+    let Polygon { outer, inners } = polygon;
+    let mut edges = outer.into_vec();
+    for ring in inners.as_slice() {
         edges.extend_from_slice(ring.as_slice())?;
     }
     Ok(Edges::from_vec(edges))
 }
 
-/// Adds the edges of a polygon.
-fn add_edges(alloc: Global, polygon: &Polygon, lists: &mut Vec<Edges>) -> Result<(), OutOfMemory>
-    ensures { OnOk result (lists.new.items ≡ lists.old.items ++ edges_in polygon.now ∷ []) }
-{
-    let edges = edges_of(alloc, polygon)?;
-    lists.push(edges)?;
-    Ok(())
-}
-
-/// The edges of polygons, a list for each. A polygon goes before the next one is copied.
+/// The edges of polygons, a list for each.
 fn edges_of_each(alloc: Global, polygons: Polygons) -> Result<Vec<Edges>, OutOfMemory>
     requires { AreSided polygons }
     ensures { IfOk result (λ lists. AreEdgesOf polygons lists.items) }
 {
     let mut lists = Vec::new(alloc);
     for polygon in polygons.into_vec() {
-        if let Err(error) = add_edges(alloc, &polygon, &mut lists) {
-            return Err(error);
-        }
+        let edges = edges_of(polygon)?;
+        lists.push(edges)?;
     }
     Ok(lists)
 }

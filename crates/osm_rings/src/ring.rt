@@ -54,6 +54,13 @@ impl Ring {
         self.edges.as_slice()
     }
 
+    /// The vector of its edges, in order.
+    pub fn into_vec(self) -> Vec<Edge>
+        ensures { result.items ≡ self }
+    {
+        self.edges
+    }
+
     /// The place of the edge that leaves the ring's least node.
     pub fn least_place(&self) -> usize
         ensures inside { result < length self.now }

@@ -106,14 +106,23 @@ fn repeats_along(alloc: Global, sorted: &[Seg]) -> Result<Vec<Repeat>, OutOfMemo
 }
 
 /// The segments of a list in order.
-fn in_order(alloc: Global, segs: &[Seg]) -> Result<Vec<Seg>, OutOfMemory>
-    ensures counts { IfOk result (λ v. (s : Seg) → count_of seg_cmp s v.items
-        ≡ count_of seg_cmp s segs.now) }
-    ensures order { IfOk result (λ v. IsSorted seg_cmp v.items) }
+fn in_order(mut segs: Vec<Seg>) -> Vec<Seg>
+    ensures counts { (s : Seg) → count_of seg_cmp s result.items ≡ count_of seg_cmp s segs.items }
+    ensures order { IsSorted seg_cmp result.items }
 {
-    let mut sorted = Vec::from_slice(alloc, segs)?;
-    sorted.sort_unstable();
-    Ok(sorted)
+    segs.sort_unstable();
+    segs
+}
+
+/// What `cancel` gives of segments that aren't needed any more, where they stand.
+pub fn cancel_of(alloc: Global, segs: Vec<Seg>) -> Result<Cancelled, OutOfMemory>
+    ensures survivors { IfOk result (λ c. AreSurvivors segs.items c.survivors.items) }
+    ensures repeats { IfOk result (λ c. AreRepeats segs.items c.repeats.items) }
+{
+    let sorted = in_order(segs);
+    let repeats = repeats_along(alloc, &sorted)?;
+    let survivors = odd_items_of(sorted)?;
+    Ok(Cancelled { survivors, repeats })
 }
 
 /// Cancels the segments of a list that occur there repeatedly: gives what survives and what was repeated.
@@ -121,10 +130,7 @@ pub fn cancel(alloc: Global, segs: &[Seg]) -> Result<Cancelled, OutOfMemory>
     ensures survivors { IfOk result (λ c. AreSurvivors segs.now c.survivors.items) }
     ensures repeats { IfOk result (λ c. AreRepeats segs.now c.repeats.items) }
 {
-    let sorted = in_order(alloc, segs)?;
-    let repeats = repeats_along(alloc, &sorted)?;
-    let survivors = odd_items_of(sorted)?;
-    Ok(Cancelled { survivors, repeats })
+    cancel_of(alloc, Vec::from_slice(alloc, segs)?)
 }
 
 /// Adds the lesser end of each segment.

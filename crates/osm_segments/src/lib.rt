@@ -15,7 +15,7 @@ mod ranges;
 mod sweep;
 
 pub use counts::{
-    Cancelled, Repeat, cancel, distinct, distinct_of, odd_nodes, repeated, survivors,
+    Cancelled, Repeat, cancel, cancel_of, distinct, distinct_of, odd_nodes, repeated, survivors,
 };
 pub use laws::{conflicts_have_their_kind, repeats_are_one, repeats_exist};
 pub use outline::{Outline, outline_of};

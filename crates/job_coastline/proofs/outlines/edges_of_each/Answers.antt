@@ -1,4 +1,5 @@
-use Rattle.std.proofs.Common.{map-id, rules, sym, ap, map, ◌∙◌}
+use Rattle.std.proofs.Common.{List, [], map-id, rules, sym, ap, map, ◌++◌, ◌∙◌, ◌∷◌}
+use Rattle.osm_geom.specs.declared.edge.Edge.{Edge}
 use Rattle.std.proofs.lemmas.Iterator.Adapters.{YieldsList-from_vec}
 use Rattle.std.proofs.lemmas.Iterator.Consumers.{YieldsList-end}
 use Rattle.osm_nest.specs.Polygons.{edges_in}
@@ -7,7 +8,9 @@ use Rattle.job_coastline.proofs.outlines.edges_of_each.Goals as goal
 
 pub loop-polygon-preserved : goal.loop-polygon-preserved
 loop-polygon-preserved c =
-    more_edges c.loop-polygon.yielded c.in-Some.polygon c.loop-polygon.lists.items c.add_edges.new.lists.items c.loop-polygon.invariant c.in_default.ensures
+    let lists = c.loop-polygon.lists.items in
+    let grown = c.in_ok-push.ensures.items ∙ ap (λ (edges : List Edge). lists ++ edges ∷ []) c.in_ok-edges.ensures in
+    more_edges c.loop-polygon.yielded c.in-Some.polygon lists c.push.new.self.items c.loop-polygon.invariant grown
 
 pub returns : goal.returns
 returns c =
