@@ -28,22 +28,26 @@ fn is_next(away: &[Seg], next: usize, seg: Seg) -> bool
     next < away.len() && away[next] == seg
 }
 
-/// Segments without others, and how many of the others were found among them: all, if both lists are in order and have them.
-fn without(alloc: Global, segs: &[Seg], away: &[Seg]) -> Result<(Vec<Seg>, usize), OutOfMemory>
-    ensures within { IfOk result (λ found. found.1 ≤ length away.now) }
-    ensures counts { IfOk result (λ found. (s : Seg) → count_of seg_cmp s found.0.items
-        + count_of seg_cmp s (take found.1 away.now) ≡ count_of seg_cmp s segs.now) }
+/// Takes others away from segments, where they stand, and tells how many of the others were found among them: all, if both
+/// lists are in order and the segments have them.
+fn take_away(segs: &mut Vec<Seg>, away: &[Seg]) -> usize
+    ensures within { result ≤ length away.now }
+    ensures counts { (s : Seg) → count_of seg_cmp s segs.new.items
+        + count_of seg_cmp s (take result away.now) ≡ count_of seg_cmp s segs.old.items }
 {
-    let mut left = Vec::with_capacity(alloc, segs.len())?;
     let mut found = 0;
-    for &seg in segs {
+    let mut left = 0;
+    for place in 0..segs.len() {
+        let seg = segs[place];
         if is_next(away, found, seg) {
             found += 1;
         } else {
-            left.push(seg)?;
+            segs[left] = seg;
+            left += 1;
         }
     }
-    Ok((left, found))
+    segs.truncate(left);
+    found
 }
 
 /// The segments of kept rings, from those of all, which are in order: those of rings that are left out are taken away.
@@ -51,7 +55,7 @@ fn without(alloc: Global, segs: &[Seg], away: &[Seg]) -> Result<(Vec<Seg>, usize
 /// Ways: all of them, if no ring is left out; those that are left once the others are found; all others ring by ring.
 pub(crate) fn segments_kept(
     alloc: Global,
-    segs: Vec<Seg>,
+    mut segs: Vec<Seg>,
     kept: &[CoastRing],
     left_out: &[CoastRing],
 ) -> Result<Segs, OutOfMemory>
@@ -63,9 +67,9 @@ pub(crate) fn segments_kept(
         return Ok(Segs::from_vec(segs));
     }
     let away = in_order(all_segments(alloc, left_out)?);
-    let (left, found) = without(alloc, &segs, &away)?;
+    let found = take_away(&mut segs, &away);
     if found == away.len() {
-        return Ok(Segs::from_vec(left));
+        return Ok(Segs::from_vec(segs));
     }
     Ok(Segs::from_vec(all_segments(alloc, kept)?))
 }

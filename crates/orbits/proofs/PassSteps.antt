@@ -2,17 +2,27 @@
 use Rattle.std.proofs.Common.{◌≡◌, ◌≢◌, ℕ, ◌+◌, ◌-◌, ◌<◌, ◌≤◌, List, [], ◌∷◌, ◌++◌, length, get_or, map, set, take, Bool, false, true, refl, sym, ap, subst, ◌∙◌, arith, Option, None, Some}
 use Rattle.std.specs.List.{concat}
 use Rattle.std.proofs.Math.Seq.{take-append_seam}
-use Rattle.std.proofs.lemmas.List.{append-nil, append_assoc, length-append, map-append, take_all}
+use Rattle.std.proofs.lemmas.List.{append-nil, append_assoc, get_or-map, length-append, length-map, map-append, take_all}
 use Rattle.std.proofs.lemmas.List.Folds.{concat-append}
 use Rattle.orbits.specs.Along.{AreOrbitsAlong, StandAlong}
 use Rattle.orbits.specs.Marks.{IsMarked}
 use Rattle.orbits.specs.OrbitSteps.{AreMarkedAlso, IsPassed}
-use Rattle.orbits.specs.Orbits.{after, IsOneToOne}
+use Rattle.orbits.specs.Orbits.{after, IsOneToOne, last_number, total_map}
 use Rattle.orbits.proofs.Closed.{no-starts, none-chained, unmarked}
 use Rattle.orbits.proofs.Finding.{AreFound, blank, found_all, found_cycle, found_none, found_pass}
 use Rattle.orbits.proofs.Reading.{at_new, length_push}
 use Rattle.orbits.proofs.Marking.{marked_more, marked_none}
 use Rattle.orbits.proofs.Walks.{IsWalkTo, walk_short, walk_to_more, walk_to_start, walk_whole}
+
+-- where a number goes on in a map in which each does
+pub total_after : (next : List ℕ) (i : ℕ) → i < length next → after (total_map next) i ≡ Some (get_or next i 0)
+total_after next i h = get_or-map Some next i 0 None h
+
+pub total_goes_on : (next : List ℕ) (i : ℕ) → i < length (total_map next) → after (total_map next) i ≢ None
+total_goes_on next i h none =
+    let same = length-map next Some in
+    let on : after (total_map next) i ≡ Some (get_or next i 0) = total_after next i (omega arith) in
+    cc
 
 -- one more number is marked
 marked_push : (old new : List Bool) (walk : List ℕ) (place : ℕ) → place < length old → AreMarkedAlso old walk new → AreMarkedAlso old (walk ++ place ∷ []) (set new place true)
@@ -50,6 +60,10 @@ module _ (next : List (Option ℕ)) (one : IsOneToOne next) (from : ℕ) (old : 
           noted = ap (λ xs. xs ++ j ∷ []) p.noted ∙ append_assoc old p.walk (j ∷ []);
           also = marked_push marked marks p.walk j (omega arith) p.also;
         }
+
+    -- the place is one of the map
+    pub passing_inside : place < length next
+    passing_inside = let here = p.to.walk.within (length p.walk - 1) (let some = p.to.walk.some in omega arith) in rw (← p.to.ends) here
 
     passing_long : length new ≡ length old + length p.walk
     passing_long = ap length p.noted ∙ length-append old p.walk

@@ -1,11 +1,15 @@
 -- The orbits of a partial one-to-one map on the numbers below a bound.
 -- The map is a list: number i goes on to j if place i has Some j.
-use Rattle.std.specs.Prelude.{◌≡◌, ◌≢◌, ℕ, ◌+◌, ◌-◌, ◌<◌, ◌≤◌, List, length, slice_index, slice_index_or, All, AllPairs, Option, Some, None}
+use Rattle.std.specs.Prelude.{◌≡◌, ◌≢◌, ℕ, ◌+◌, ◌-◌, ◌<◌, ◌≤◌, List, length, map, slice_index, slice_index_or, All, AllPairs, Option, Some, None}
 use Rattle.orbits.specs.Once.{HoldEachOnce}
 
 -- what a number goes on to
 abbrev pub after : List (Option ℕ) → ℕ → Option ℕ
 after next i = slice_index_or next i None
+
+-- the map in which each number goes on, to the one at its place
+abbrev pub total_map : List ℕ → List (Option ℕ)
+total_map next = map Some next
 
 -- no number goes on to one out of range, and no two go on to the same one
 pub record IsOneToOne (next : List (Option ℕ)) : Type 0 where

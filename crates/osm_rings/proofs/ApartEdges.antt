@@ -14,8 +14,6 @@ use Rattle.plane.proofs.PlaneKit.{cross-self}
 use Rattle.orbits.specs.Cutting.{IsPiece}
 use Rattle.orbits.specs.Once.{HoldEachOnce}
 use Rattle.orbits.specs.Orbits.{AreOrbits, IsOrbit, after}
-use Rattle.orbits.proofs.Members.{held_distinct}
-use Rattle.orbits.proofs.Sums.{all_below}
 use Rattle.osm_geom.specs.declared.edge.Edge.{Edge}
 use Rattle.osm_geom.specs.declared.point.Point.{Point}
 use Rattle.osm_geom.specs.Point.{point_cmp}
@@ -27,6 +25,7 @@ use Rattle.osm_rings.specs.Apart.{IsFirstLeaving, LeaveApart, LeavesFirst, NoneL
 use Rattle.osm_rings.specs.Clockwise.{earlier, is_met_before}
 use Rattle.osm_rings.specs.declared.departure.Departure.{Departure}
 use Rattle.osm_rings.specs.Departures.{AreDepartures, IsDepartureOf, IsFirstMet, start_at, step_at}
+use Rattle.osm_rings.proofs.PieceSteps.{all_below, held_distinct}
 use Rattle.osm_rings.proofs.Starts.{lt, lt-itself, ranked-chain, same-some, start-at}
 use Rattle.std.proofs.lemmas.List.Elements.{All-contains}
 use Rattle.osm_rings.specs.Numbered.{edge_at}

@@ -1,4 +1,3 @@
-mod AlongPieces
 mod ApartEdges
 mod Clockwise
 mod ClosedWalks
@@ -12,11 +11,13 @@ mod Multiplied
 mod OrbitWalks
 mod PackedEdges
 mod Placed
+mod PieceSteps
 mod PlaneNumbers
 pub mod PlaneRings
 mod RankOrder
 mod RingListLifts
 mod RingLists
+mod SharedNodes
 mod SortedRounds
 mod Starts
 mod Succeed

@@ -1,5 +1,5 @@
 -- A point of a lesser rank comes before one of a greater rank.
-use Rattle.std.proofs.Common.{ap, arith, pos, subst, ⊎_elim, inl, inr, refl, sym, unsigned_abs, zero, suc, ℕ, ℤ, ◌*◌, ◌*ℤ◌, ◌+ℤ◌, ◌-ℤ◌, ◌<◌, ◌<ℤ◌, ◌≤ℤ◌, ◌∙◌, ◌≡◌, ◌≤◌, ◌⊎◌}
+use Rattle.std.proofs.Common.{FitsSigned, ap, arith, negsuc, pos, subst, w32, w64, ⊎_elim, inl, inr, refl, sym, unsigned_abs, zero, suc, ℕ, ℤ, ◌*◌, ◌*ℤ◌, ◌+ℤ◌, ◌-ℤ◌, ◌<◌, ◌<ℤ◌, ◌≤ℤ◌, ◌∙◌, ◌≡◌, ◌≤◌, ◌⊎◌}
 use Rattle.std.proofs.lemmas.Int.{ints}
 use Rattle.std.specs.Ordering.{ordering_then}
 use Rattle.std.specs.declared.cmp.Ordering.TheVariants.{Equal, Less}
@@ -15,7 +15,7 @@ use Rattle.osm_geom.specs.Part.{part_num}
 use Rattle.osm_geom.specs.Point.{Fraction, IsInWorld, fraction_in, point_cmp, whole, x_of, y_of}
 use Rattle.osm_geom.specs.RatioOrder.{fraction_cmp}
 use Rattle.osm_geom.proofs.GeometryKit.{part_whole, point_cmp_is}
-use Rattle.osm_rings.specs.Ranks.{rank_at, point_rank}
+use Rattle.osm_rings.specs.Ranks.{above_floor, floor_rank, point_rank, rank_at}
 
 -- ---- fractions by their floors
 -- a fraction is q and r of its parts, which are fewer than one whole
@@ -79,26 +79,33 @@ first-by Minus x y x' y' h c d less = absurd (omega (arith, ints))
 comes-first : (x y x' y' : ℤ) → IsColumn x → IsColumn x' → rank_at x y <ℤ rank_at x' y' → ComesFirst x y x' y'
 comes-first x y x' y' c d less = first-by (sign (y' -ℤ y)) x y x' y' (says (y' -ℤ y)) c d less
 
--- the floor of a longitude is a column
-module _ (q : ℤ) (r k : ℕ) (below : r < k) (world : unsigned_abs (q *ℤ pos k +ℤ pos r) ≤ 1_800_000_000 * k) where
-  too_high : (pos 0 ≤ℤ (q -ℤ pos 2_147_483_648)) → ⊥
-  too_high h = let a = subst (λ z. pos 0 ≤ℤ z) (same ((lift q ⊟ lift (pos 2_147_483_648)) ⊠ lift (pos k)) (lift q ⊠ lift (pos k) ⊟ lift (pos 2_147_483_648) ⊠ lift (pos k)) (omega arith)) (product_not_below (q -ℤ pos 2_147_483_648) (pos k) h (omega (arith, ints))) in omega (arith, signed, a, below, world)
+-- a fraction that is at most b away from zero has such a floor, or the one below it
+module _ (b : ℕ) (q : ℤ) (r k : ℕ) (below : r < k) (world : unsigned_abs (q *ℤ pos k +ℤ pos r) ≤ b * k) where
+  bound-times : pos (b * k) ≡ pos b *ℤ pos k
+  bound-times = refl
 
-  too_low : (pos 0 ≤ℤ ((pos 0 -ℤ pos 2_147_483_649) -ℤ q)) → ⊥
-  too_low h = let a = subst (λ z. pos 0 ≤ℤ z) (same ((lift (pos 0 -ℤ pos 2_147_483_649) ⊟ lift q) ⊠ lift (pos k)) (lift (pos 0 -ℤ pos 2_147_483_649) ⊠ lift (pos k) ⊟ lift q ⊠ lift (pos k)) (omega arith)) (product_not_below ((pos 0 -ℤ pos 2_147_483_649) -ℤ q) (pos k) h (omega (arith, ints))) in omega (arith, signed, a, below, world)
+  too_high : (pos 0 ≤ℤ ((q -ℤ pos b) -ℤ pos 1)) → ⊥
+  too_high h = let a = subst (λ z. pos 0 ≤ℤ z) (same (((lift q ⊟ lift (pos b)) ⊟ lift (pos 1)) ⊠ lift (pos k)) ((lift q ⊠ lift (pos k) ⊟ lift (pos b) ⊠ lift (pos k)) ⊟ lift (pos k)) (omega arith)) (product_not_below ((q -ℤ pos b) -ℤ pos 1) (pos k) h (omega (arith, ints))) in omega (arith, signed, a, below, world, bound-times)
 
-  high-by : (s : Sign) → Says s (q -ℤ pos 2_147_483_648) → q ≤ℤ pos 2_147_483_647
+  too_low : (pos 0 ≤ℤ (((pos 0 -ℤ pos b) -ℤ pos 2) -ℤ q)) → ⊥
+  too_low h = let a = subst (λ z. pos 0 ≤ℤ z) (same ((((lift (pos 0) ⊟ lift (pos b)) ⊟ lift (pos 2)) ⊟ lift q) ⊠ lift (pos k)) (((lift (pos 0) ⊟ lift (pos b) ⊠ lift (pos k)) ⊟ lift (pos 2) ⊠ lift (pos k)) ⊟ lift q ⊠ lift (pos k)) (omega arith)) (product_not_below (((pos 0 -ℤ pos b) -ℤ pos 2) -ℤ q) (pos k) h (omega (arith, ints))) in omega (arith, signed, a, below, world, bound-times)
+
+  high-by : (s : Sign) → Says s ((q -ℤ pos b) -ℤ pos 1) → q ≤ℤ pos b
   high-by Minus h = omega (arith, ints)
   high-by Null h = absurd (too_high (omega (arith, ints)))
   high-by Plus h = absurd (too_high (omega (arith, ints)))
 
-  low-by : (s : Sign) → Says s ((pos 0 -ℤ pos 2_147_483_649) -ℤ q) → (pos 0 -ℤ pos 2_147_483_648) ≤ℤ q
+  low-by : (s : Sign) → Says s (((pos 0 -ℤ pos b) -ℤ pos 2) -ℤ q) → ((pos 0 -ℤ pos b) -ℤ pos 1) ≤ℤ q
   low-by Minus h = omega (arith, ints)
   low-by Null h = absurd (too_low (omega (arith, ints)))
   low-by Plus h = absurd (too_low (omega (arith, ints)))
 
-  floor-column : IsColumn q
-  floor-column = (low-by (sign ((pos 0 -ℤ pos 2_147_483_649) -ℤ q)) (says ((pos 0 -ℤ pos 2_147_483_649) -ℤ q)), high-by (sign (q -ℤ pos 2_147_483_648)) (says (q -ℤ pos 2_147_483_648)))
+  floor-within : (((pos 0 -ℤ pos b) -ℤ pos 1) ≤ℤ q) × (q ≤ℤ pos b)
+  floor-within = (low-by (sign (((pos 0 -ℤ pos b) -ℤ pos 2) -ℤ q)) (says (((pos 0 -ℤ pos b) -ℤ pos 2) -ℤ q)), high-by (sign ((q -ℤ pos b) -ℤ pos 1)) (says ((q -ℤ pos b) -ℤ pos 1)))
+
+-- the floor of a latitude
+pub row-within : (y : Part) → unsigned_abs (fraction_in y).num ≤ 900_000_000 * y.den → ((pos 0 -ℤ pos 1_000_000_000) ≤ℤ y.floor) × (y.floor ≤ℤ pos 1_000_000_000)
+row-within y world = let within = floor-within 900_000_000 y.floor y.above y.den y.above_in world in let low = within.0 in let high = within.1 in (omega (arith, ints, low), omega (arith, ints, high))
 
 abbrev column : Point → ℤ
 column (Lattice p) = p.x
@@ -110,7 +117,7 @@ row (Lattice p) = p.y
 row (OnVertical c y) = y.floor
 row (OnHorizontal x d) = d
 
-rank-is : (p : Point) → point_rank p ≡ rank_at (column p) (row p)
+rank-is : (p : Point) → floor_rank p ≡ rank_at (column p) (row p)
 rank-is (Lattice p) = refl
 rank-is (OnVertical c y) = refl
 rank-is (OnHorizontal x d) = refl
@@ -118,7 +125,7 @@ rank-is (OnHorizontal x d) = refl
 column-in : (p : Point) → IsInWorld p → IsColumn (column p)
 column-in (Lattice p) world = let small = world.0 in (omega (arith, signed, small), omega (arith, signed, small))
 column-in (OnVertical c y) world = (omega (arith, ints), omega (arith, ints))
-column-in (OnHorizontal x d) world = floor-column x.floor x.above x.den x.above_in x.num_in
+column-in (OnHorizontal x d) world = let within = floor-within 1_800_000_000 x.floor x.above x.den x.above_in x.num_in in let low = within.0 in let high = within.1 in (omega (arith, ints, low), omega (arith, ints, high))
 
 -- how far a point is above its row
 abbrev rest : Point → ℕ
@@ -146,8 +153,76 @@ in-row (OnHorizontal x d) (OnHorizontal w b) c e h = by-x (OnHorizontal x d) (On
 in-row (OnHorizontal x d) (OnVertical v y) c e h = by-y (OnHorizontal x d) (OnVertical v y) (less-than-part d y e)
 in-row (OnVertical v y) q c e h = let most = c.1 in absurd (omega (arith, ints, most, h))
 
-pub rank-tells : (p q : Point) → IsInWorld p → IsInWorld q → point_rank p <ℤ point_rank q → point_cmp p q ≡ Less
-rank-tells p q world other less =
+floor-tells : (p q : Point) → IsInWorld p → IsInWorld q → floor_rank p <ℤ floor_rank q → point_cmp p q ≡ Less
+floor-tells p q world other less =
     ⊎_elim (λ (low : row p <ℤ row q). by-y p q (less-by-floors (y_of p) (y_of q) (row p) (row q) (rest p) (rest q) (row-floored p) (row-floored q) low))
     (λ (level : (row p ≡ row q) × (column p <ℤ column q)). in-row p q (column-in q other) level.0 level.1)
-    (comes-first (column p) (row p) (column q) (row q) (column-in p world) (column-in q other) (subst (λ z. z <ℤ rank_at (column q) (row q)) (rank-is p) (subst (λ z. point_rank p <ℤ z) (rank-is q) less)))
+    (comes-first (column p) (row p) (column q) (row q) (column-in p world) (column-in q other) (subst (λ z. z <ℤ rank_at (column q) (row q)) (rank-is p) (subst (λ z. floor_rank p <ℤ z) (rank-is q) less)))
+
+-- ---- locations, and points between them
+one-place : (s : Sign) (x y x' y' : ℤ) → Says s (y' -ℤ y) → IsColumn x → IsColumn x' → rank_at x y ≡ rank_at x' y' → (x ≡ x') × (y ≡ y')
+one-place Plus x y x' y' h c d same = absurd (omega (arith, ints))
+one-place Null x y x' y' h c d same = (omega (arith, ints), omega (arith, ints))
+one-place Minus x y x' y' h c d same = absurd (omega (arith, ints))
+
+same-place : (p q : Point) → IsInWorld p → IsInWorld q → floor_rank p ≡ floor_rank q → (column p ≡ column q) × (row p ≡ row q)
+same-place p q world other same =
+    one-place (sign (row q -ℤ row p)) (column p) (row p) (column q) (row q) (says (row q -ℤ row p)) (column-in p world) (column-in q other) (sym (rank-is p) ∙ (same ∙ rank-is q))
+
+above-small : (p : Point) → (pos 0 ≤ℤ above_floor p) × (above_floor p ≤ℤ pos 1)
+above-small (Lattice p) = (omega (arith, ints), omega (arith, ints))
+above-small (OnVertical c y) = (omega (arith, ints), omega (arith, ints))
+above-small (OnHorizontal x d) = (omega (arith, ints), omega (arith, ints))
+
+-- a location comes before the other points of its number
+location-first : (p q : Point) → IsInWorld p → IsInWorld q → floor_rank p ≡ floor_rank q → above_floor p <ℤ above_floor q → point_cmp p q ≡ Less
+location-first (Lattice p) (Lattice q) world other same less = absurd (omega (arith, ints))
+location-first (Lattice p) (OnVertical c y) world other same less =
+    let at = same-place (Lattice p) (OnVertical c y) world other same in
+    let beyond : p.x ≡ pos 2_147_483_647 = at.0 in
+    let small = world.0 in absurd (omega (arith, signed, small))
+location-first (Lattice p) (OnHorizontal x d) world other same less =
+    let at = same-place (Lattice p) (OnHorizontal x d) world other same in
+    by-x (Lattice p) (OnHorizontal x d) (same-whole p.y d at.1) (less-than-part p.x x at.0)
+location-first (OnVertical c y) q world other same less = let small = (above-small q).1 in absurd (omega (arith, ints, small, less))
+location-first (OnHorizontal x d) q world other same less = let small = (above-small q).1 in absurd (omega (arith, ints, small, less))
+
+pub rank-tells : (p q : Point) → IsInWorld p → IsInWorld q → point_rank p <ℤ point_rank q → point_cmp p q ≡ Less
+rank-tells p q world other less = by (sign (floor_rank q -ℤ floor_rank p)) (says (floor_rank q -ℤ floor_rank p))
+  where
+    by : (s : Sign) → Says s (floor_rank q -ℤ floor_rank p) → point_cmp p q ≡ Less
+    by Plus h = floor-tells p q world other (omega (arith, ints))
+    by Null h = location-first p q world other (omega (arith, ints)) (let same : floor_rank p ≡ floor_rank q = omega (arith, ints) in omega (arith, ints, less))
+    by Minus h = let a = (above-small p).0 in let b = (above-small q).1 in absurd (omega (arith, ints, a, b, less))
+
+-- an even rank is that of one location
+pub even-is-one : (p q : Point) → IsInWorld p → IsInWorld q → (half : ℤ) → point_rank p ≡ half *ℤ pos 2 → point_rank p ≡ point_rank q → point_cmp p q ≡ Equal
+even-is-one (Lattice p) (Lattice q) world other half even same =
+    let at = same-place (Lattice p) (Lattice q) world other (omega (arith, ints)) in
+    sym (point_cmp_is (Lattice p) (Lattice q)) ∙ (ap (λ o. ordering_then o (fraction_cmp (whole p.x) (whole q.x))) (same-whole p.y q.y at.1) ∙ same-whole p.x q.x at.0)
+even-is-one (Lattice p) (OnVertical c y) world other half even same = absurd (omega (arith, ints))
+even-is-one (Lattice p) (OnHorizontal x d) world other half even same = absurd (omega (arith, ints))
+even-is-one (OnVertical c y) q world other half even same = absurd (omega (arith, ints))
+even-is-one (OnHorizontal x d) q world other half even same = absurd (omega (arith, ints))
+
+-- ---- ranks fit 64 bits
+fits : (z : ℤ) → (pos 0 -ℤ pos 9_000_000_000_000_000_000) ≤ℤ z → z ≤ℤ pos 9_000_000_000_000_000_000 → FitsSigned w64 z
+fits (pos n) low high = record { sfits = omega (arith, signed, low, high) }
+fits (negsuc n) low high = record { sfits = omega (arith, signed, low, high) }
+
+-- the rank of a column and a row, and what it is made of
+module _ (x y rounded : ℤ) (column : FitsSigned w32 x) (low : (pos 0 -ℤ pos 1_000_000_000) ≤ℤ y) (high : y ≤ℤ pos 1_000_000_000) (from : pos 0 ≤ℤ rounded) (to : rounded ≤ℤ pos 1) where
+  left : (pos 0 -ℤ pos 2_147_483_648) ≤ℤ x
+  left = let small = column.sfits in omega (arith, signed, small)
+
+  right : x ≤ℤ pos 2_147_483_647
+  right = let small = column.sfits in omega (arith, signed, small)
+
+  pub number : FitsSigned w64 (rank_at x y)
+  number = let a = left in let b = right in fits (rank_at x y) (omega (arith, ints, a, b, low, high)) (omega (arith, ints, a, b, low, high))
+
+  pub twice : FitsSigned w64 (pos 2 *ℤ rank_at x y)
+  twice = let a = left in let b = right in fits (pos 2 *ℤ rank_at x y) (omega (arith, ints, a, b, low, high)) (omega (arith, ints, a, b, low, high))
+
+  pub sum : FitsSigned w64 (pos 2 *ℤ rank_at x y +ℤ rounded)
+  sum = let a = left in let b = right in fits (pos 2 *ℤ rank_at x y +ℤ rounded) (omega (arith, ints, a, b, low, high, from, to)) (omega (arith, ints, a, b, low, high, from, to))

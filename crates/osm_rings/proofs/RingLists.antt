@@ -14,7 +14,7 @@ use Rattle.orbits.specs.Orbits.{AreOrbits, IsOrbit, after}
 use Rattle.orbits.specs.Once.{HoldEachOnce}
 use Rattle.orbits.specs.OnceLaws.{StandBelow, SumsAgree}
 use Rattle.osm_geom.specs.declared.edge.Edge.{Edge}
-use Rattle.osm_geom.specs.InPlane.Multiple.{IsWholeAt, edges_times, product_of_denominators, whole_edges}
+use Rattle.osm_geom.specs.InPlane.Multiple.{IsWholeAt, edge_times, edges_times, product_of_denominators, whole_edges}
 use Rattle.osm_geom.specs.InPlane.Sided.{IsSided}
 use Rattle.osm_rings.specs.Numbered.{edge_at}
 use Rattle.osm_rings.specs.Pieces.{AreAllCut, edges_at}
@@ -23,7 +23,7 @@ use Rattle.osm_rings.specs.RingList.{AreRingsOf}
 use Rattle.osm_rings.proofs.OrbitWalks.{edge-in, orbits-walks, round, end-is}
 use Rattle.osm_rings.proofs.Placed.{all-below, placed-map, placed-whole, sums-whole}
 use Rattle.osm_rings.specs.Departures.{IsFirstMet}
-use Rattle.osm_rings.proofs.Succeed.{are-successors}
+use Rattle.osm_rings.proofs.Succeed.{are-successors, some-leaves}
 use Rattle.osm_rings.proofs.PlaneRings.{ring-of-plane}
 use Rattle.osm_rings.proofs.WalkCuts.{cut-pieces}
 use Rattle.osm_rings.proofs.Multiplied.{size, whole-at}
@@ -127,6 +127,10 @@ pub successors-of : (es : List Edge) → IsSided es → (next : List (Option ℕ
 successors-of es sided next sized met =
     let long = size es in
     are-successors (whole_edges es) sided next (omega arith) (λ i h. met i (omega arith))
+
+-- some edge leaves the end of each
+pub end-is-left : (es : List Edge) → IsSided es → (e : Edge) → In e es → IsFirstMet (whole_edges es) (edge_times (product_of_denominators es) e) None → ⊥
+end-is-left es sided e member = some-leaves (whole_edges es) sided (edge_times (product_of_denominators es) e) (in-map (edge_times (product_of_denominators es)) es e member)
 
 -- each place leads on
 pub all-go-on : (xs : List plane.Edge) (next : List (Option ℕ)) → AreSuccessors xs next → (i : ℕ) → i < length next → after next i ≢ None

@@ -18,7 +18,8 @@ use Rattle.osm_geom.specs.Point.{point_cmp}
 use Rattle.osm_geom.proofs.GeometryKit.{neither_less, point_total}
 use Rattle.osm_rings.specs.declared.departure.Departure.{Departure}
 use Rattle.osm_rings.specs.Departures.{AreClockwiseRound, AreDepartures, AreFrom, AreInTwoLists, AreRising, IsDepartureOf, IsEndAt, IsFirstAt, TellStarts, start_at}
-use Rattle.lists.proofs.ListsKit.{clash, not-false-out, not-true-out}
+pub use Rattle.lists.proofs.ListsKit.{clash}
+use Rattle.lists.proofs.ListsKit.{not-false-out, not-true-out}
 
 -- what an edge leaves
 pub start-at : (es : List Edge) (i : ℕ) (d : Edge) → i < length es → start_at es i ≡ Some (get_or es i d).from
@@ -235,7 +236,7 @@ pub record AreNumbered (ws : List Departure) (n number : ℕ) (numbers : List �
 
 module _ (es : List Edge) (ws : List Departure) (right : All (IsDepartureOf es) ws) where
   -- departures of one edge begin at one point
-  one-edge : (i j : ℕ) (d : Departure) → i < length ws → j < length ws → (get_or ws i d).place ≡ (get_or ws j d).place → (get_or ws i d).edge.now.from ≡ (get_or ws j d).edge.now.from
+  pub one-edge : (i j : ℕ) (d : Departure) → i < length ws → j < length ws → (get_or ws i d).place ≡ (get_or ws j d).place → (get_or ws i d).edge.now.from ≡ (get_or ws j d).edge.now.from
   one-edge i j d hi hj same = same-some (get_or ws i d).edge.now.from (get_or ws j d).edge.now.from (sym (right i d hi).from ∙ (ap (start_at es) same ∙ (right j d hj).from))
 
   pub numbered-more : (n number next : ℕ) (numbers after : List ℕ) (w : Departure) → n < length ws → w ≡ get_or ws n w → length numbers ≡ length es → after ≡ set numbers (get_or ws n w).place next

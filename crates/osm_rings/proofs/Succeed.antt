@@ -111,6 +111,13 @@ module _ (es : List Edge) (sd : IsSided es) where
         let f = next_there es sd e in_e in
         subst (IsSuccessor es e) (same-by f.0 f.1 (same_edge f.0 g) refl) f.1
 
+  -- some edge leaves the end of each
+  pub some-leaves : (e : Edge) → In e es → IsFirstMet es e None → ⊥
+  some-leaves e in_e met =
+      let f = next_there es sd e in_e in
+      let k = place-in es nowhere f.0 f.1.member in
+      met.none refl k.0 k.1 (ap (λ x. x.from) k.2 ∙ sym (next_leaves es sd e f.0 in_e f.1))
+
   module _ (next : List (Option ℕ)) (sized : length next ≡ length es) (met : (i : ℕ) → i < length es → IsFirstMet es (edge_at es i) (after next i)) where
     has-place : (i j : ℕ) → after next i ≡ Some j → i < length es
     has-place i j e = ⊎_elim (λ h. h) (λ h. let n : after next i ≡ None = get_or_past next i None (omega arith) in absurd (cc)) (cases_lt i (length es))
@@ -120,10 +127,7 @@ module _ (es : List Edge) (sd : IsSided es) where
 
     goes-on : (i : ℕ) → i < length es → (r : Option ℕ) → after next i ≡ r → (j : ℕ) × (after next i ≡ Some j)
     goes-on i h (Some j) e = (j, e)
-    goes-on i h None e =
-        let f = next_there es sd (edge_at es i) (edge-in es i h) in
-        let k = place-in es nowhere f.0 f.1.member in
-        absurd ((met i h).none e k.0 k.1 (ap (λ x. x.from) k.2 ∙ sym (next_leaves es sd (edge_at es i) f.0 (edge-in es i h) f.1)))
+    goes-on i h None e = absurd (some-leaves (edge_at es i) (edge-in es i h) (subst (IsFirstMet es (edge_at es i)) e (met i h)))
 
     pub are-successors : AreSuccessors es next
     are-successors = record {

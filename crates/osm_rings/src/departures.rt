@@ -1,6 +1,6 @@
-//! The edges of a list as they leave their points, in order; the numbers of these points; and the edges that leave one.
+//! The edges of a list as they leave their points, in order, and the edges that leave one.
 //!
-//! The places of departures are searched by sort keys of points, and then tested against the points themselves.
+//! The places of departures are searched by ranks of points, and then tested against the points themselves.
 ghost use Rattle.std.specs.Prelude.{◌≡◌, ◌<◌, ◌≤◌, ◌-◌, [], All, IfOk, IsPermutation, List, OnOk, false, length, not, slice_index_or, true};
 ghost use Rattle.std.specs.Ordering.{is_lt};
 ghost use Rattle.osm_geom.specs.declared.edge.Edge.{Edge};
@@ -59,9 +59,9 @@ fn sorted<'a>(departures: Vec<Departure<'a>>) -> Result<Vec<Departure<'a>>, OutO
     Ok(departures)
 }
 
-/// The departures in order: by their sort keys alone, if that is their order, as when no two leave one point.
+/// The departures in order: by their ranks alone, if that is their order, as when no two leave one point.
 ///
-/// Ways: departures that their sort keys put in order; those that also need directions round each point; all others by their
+/// Ways: departures that their ranks put in order; those that also need directions round each point; all others by their
 /// points.
 fn in_order<'a>(departures: Vec<Departure<'a>>) -> Result<Vec<Departure<'a>>, OutOfMemory>
     ensures moved { IfOk result (λ v. IsPermutation departures.entry.items v.items) }
@@ -156,7 +156,7 @@ fn is_first_at(departures: &[Departure], p: Point, place: usize) -> bool
 
 /// How many departures begin before p. If some begin at p, it is the place of the first of these.
 ///
-/// Ways: four places from `near` on by sort keys; other places by binary search of the sort keys; all others by that of the
+/// Ways: four places from `near` on by ranks; other places by binary search of the ranks; all others by that of the
 /// points.
 fn first_at(departures: &[Departure], keys: &[i64], near: usize, p: Point) -> usize
     requires rising { AreRising departures.now }
@@ -222,55 +222,6 @@ pub fn are_apart(departures: &[Departure]) -> bool
     ensures { result ≡ true → (es : List Edge) → AreDepartures es departures.now → LeaveApart es }
 {
     departures.is_sorted_by(|departure, next| departure.leaves_before(next))
-}
-
-/// Whether the departure at a place is the first that leaves its point.
-fn is_first_there(departures: &[Departure], place: usize) -> bool
-    requires rising { AreRising departures.now }
-    requires inside { place < length departures.now }
-    ensures first { result ≡ true → (d : Departure)
-        → IsFirstAt departures.now (slice_index_or departures.now place d).edge.now.from place }
-    ensures later { result ≡ false → (d : Departure)
-        → (slice_index_or departures.now (place - 1) d).edge.now.from
-        ≡ (slice_index_or departures.now place d).edge.now.from }
-    ensures some { result ≡ false → 0 < place }
-{
-    place == 0 || departures[place - 1].leaves_before(&departures[place])
-}
-
-/// The number of the node that the departure at a place leaves, by that of the one before it.
-fn number_at(departures: &[Departure], before: usize, place: usize) -> usize
-    requires rising { AreRising departures.now }
-    requires inside { place < length departures.now }
-    requires before { (d : Departure) → 0 < place
-        → IsFirstAt departures.now (slice_index_or departures.now (place - 1) d).edge.now.from before }
-    ensures { (d : Departure)
-        → IsFirstAt departures.now (slice_index_or departures.now place d).edge.now.from result }
-{
-    if is_first_there(departures, place) {
-        return place;
-    }
-    before
-}
-
-/// For each edge the number of the node that it leaves: the place of the first departure from there.
-pub fn node_numbers(
-    alloc: Global,
-    edges: &[Edge],
-    departures: &[Departure],
-) -> Result<Vec<usize>, OutOfMemory>
-    requires { AreDepartures edges.now departures.now }
-    ensures sized { IfOk result (λ v. length v.items ≡ length edges.now) }
-    ensures below { IfOk result (λ v. All (λ k. k < length edges.now) v.items) }
-    ensures tell { IfOk result (λ v. TellStarts edges.now v.items) }
-{
-    let mut numbers = vec![in alloc; 0; edges.len()]?;
-    let mut number = 0;
-    for place in 0..departures.len() {
-        number = number_at(departures, number, place);
-        numbers[departures[place].place] = number;
-    }
-    Ok(numbers)
 }
 
 /// The range of places of the departures that begin at p.

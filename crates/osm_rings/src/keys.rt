@@ -1,10 +1,12 @@
-//! Departures by the sort keys of the points that they leave.
+//! Departures by the ranks of the points that they leave.
 //!
 //! Only speed depends on these: callers that search by them then test by the points themselves.
 ghost use Rattle.std.specs.Prelude.{◌<◌, length};
+ghost use Rattle.osm_geom.specs.Point.{IsInWorld};
 
 use crate::departure::Departure;
-use osm_geom::{Point, sort_key};
+use crate::ranks::rank;
+use osm_geom::Point;
 use std::alloc::{AllocError as OutOfMemory, Global};
 
 /// How many places from another on are tried one by one.
@@ -13,7 +15,7 @@ const STEPS: usize = 4;
 /// How many places before another, and from it on, are searched before more are.
 const WIDTHS: [usize; 2] = [128, 8192];
 
-/// The sort keys of the points that departures leave, side by side, so that a search reads few bytes.
+/// The ranks of the points that departures leave, side by side, so that a search reads few bytes.
 pub fn keys_of(alloc: Global, departures: &[Departure]) -> Result<Vec<i64>, OutOfMemory> {
     let mut keys = Vec::with_capacity(alloc, departures.len())?;
     for departure in departures {
@@ -42,10 +44,12 @@ fn first_within(keys: &[i64], near: usize, width: usize, key: i64) -> Option<usi
     None
 }
 
-/// Where the departures from p begin, by the sort keys. The search starts at `near` and the few places after it, and then goes
+/// Where the departures from p begin, by the ranks. The search starts at `near` and the few places after it, and then goes
 /// further from there.
-pub(crate) fn guess_first(keys: &[i64], near: usize, p: Point) -> usize {
-    let key = sort_key(p);
+pub(crate) fn guess_first(keys: &[i64], near: usize, p: Point) -> usize
+    requires { IsInWorld p }
+{
+    let key = rank(&p);
     for place in near..near.saturating_add(STEPS).min(keys.len()) {
         if parts_keys(keys, place, key) {
             return place;

@@ -1,77 +1,51 @@
 //! The ring list of a sided list of edges.
-ghost use Rattle.std.specs.Prelude.{◌≡◌, ◌≢◌, ◌<◌, ◌∷◌, [], All, IfOk, List, None, length, map, ℕ};
-ghost use Rattle.orbits.specs.Along.{AreOrbitsAlong, StandAlong};
-ghost use Rattle.orbits.specs.Orbits.{IsOneToOne, after};
+ghost use Rattle.std.specs.Prelude.{◌≡◌, ◌<◌, All, IfOk, length, ℕ};
+ghost use Rattle.orbits.specs.Along.{AreOrbitsAlong};
+ghost use Rattle.orbits.specs.Orbits.{IsOneToOne, after, total_map};
 ghost use Rattle.osm_rings.specs.Apart.{LeaveApart};
 ghost use Rattle.osm_rings.specs.Departures.{AreDepartures, IsFirstMet, TellStarts};
 ghost use Rattle.osm_rings.specs.Numbered.{edge_at};
-ghost use Rattle.osm_rings.specs.Pieces.{AreAllCut, AreRingsAlong, edges_at};
+ghost use Rattle.osm_rings.specs.Pieces.{AreRingsAlong, HaveOwnNumbers, edges_at};
 ghost use Rattle.osm_rings.specs.RingList.{AreRingsOf};
 ghost use Rattle.osm_geom.specs.InPlane.Multiple.{whole_edges};
 ghost use Rattle.osm_geom.specs.InPlane.Sided.{IsSided};
 
 use crate::departure::Departure;
-use crate::departures::{are_apart, departures, node_numbers};
+use crate::departures::{are_apart, departures};
 use crate::few::walks::few_rings;
+use crate::nodes::{Nodes, nodes_of};
 use crate::packed::{all_packed, packed_rings};
+use crate::pieces::pieces;
 use crate::ring::{Ring, Rings};
 use crate::successors::successors;
-use orbits::{ClosedWalks, cut, cycles};
+use orbits::{ClosedWalks, cycles};
 use osm_geom::{Edge, Edges};
 use std::alloc::{AllocError as OutOfMemory, Global};
 use std::mem;
 
-/// The numbers of the nodes that edges leave. Their departures go.
-fn numbers_of<'a>(
+/// The nodes that edges leave. Their departures go.
+fn nodes_by<'a>(
     alloc: Global,
     edges: &[Edge],
     departures: Vec<Departure<'a>>,
-) -> Result<Vec<usize>, OutOfMemory>
+) -> Result<Nodes, OutOfMemory>
     requires { AreDepartures edges.now departures.items }
-    ensures sized { IfOk result (λ v. length v.items ≡ length edges.now) }
-    ensures below { IfOk result (λ v. All (λ k. k < length edges.now) v.items) }
-    ensures tell { IfOk result (λ v. TellStarts edges.now v.items) }
+    ensures sized { IfOk result (λ nodes. length nodes.numbers.items ≡ length edges.now) }
+    ensures marked { IfOk result (λ nodes. length nodes.shared.items ≡ length edges.now) }
+    ensures below { IfOk result (λ nodes. All (λ k. k < length edges.now) nodes.numbers.items) }
+    ensures tell { IfOk result (λ nodes. TellStarts edges.now nodes.numbers.items) }
+    ensures own { IfOk result (λ nodes. HaveOwnNumbers nodes.numbers.items nodes.shared.items) }
 {
-    node_numbers(alloc, edges, &departures)
+    nodes_of(alloc, edges, &departures)
 }
 
 /// The closed walks of a map in which each place goes on. The map goes.
-fn walks_of(alloc: Global, next: Vec<Option<usize>>) -> Result<ClosedWalks, OutOfMemory>
-    requires map { IsOneToOne next.items }
-    requires total { (i : ℕ) → i < length next.items → after next.items i ≢ None }
-    ensures { IfOk result (λ v. AreOrbitsAlong next.items v.places.items v.sizes.items) }
+fn walks_of(alloc: Global, next: Vec<usize>) -> Result<ClosedWalks, OutOfMemory>
+    requires { IsOneToOne (total_map next.items) }
+    ensures { IfOk result
+        (λ v. AreOrbitsAlong (total_map next.items) v.places.items v.sizes.items) }
 {
     cycles(alloc, &next)
-}
-
-/// The pieces that are cut off walks. The walks go, and the numbers of nodes by which they are cut.
-fn pieces_of(
-    alloc: Global,
-    walks: ClosedWalks,
-    numbers: Vec<usize>,
-) -> Result<Vec<Vec<usize>>, OutOfMemory>
-    requires walks { (ws : List (List ℕ)) × StandAlong ws walks.places.items walks.sizes.items
-        × All (λ w. All (λ i. i < length numbers.items) w) ws }
-    requires room { All (λ k. k < length numbers.items) numbers.items }
-    ensures { IfOk result (λ v. (ws : List (List ℕ))
-        → StandAlong ws walks.places.items walks.sizes.items
-        → AreAllCut numbers.items ws (map (λ p. p.items) v.items)) }
-{
-    pieces(alloc, &walks.places, &walks.sizes, &numbers)
-}
-
-/// Pieces one after the other, with room for so many places.
-fn along(alloc: Global, pieces: &[Vec<usize>], room: usize) -> Result<ClosedWalks, OutOfMemory>
-    ensures { IfOk result (λ v.
-        StandAlong (map (λ p. p.items) pieces.now) v.places.items v.sizes.items) }
-{
-    let mut places = Vec::with_capacity(alloc, room)?;
-    let mut sizes = Vec::with_capacity(alloc, pieces.len())?;
-    for piece in pieces {
-        places.extend_from_slice(piece)?;
-        sizes.push(piece.len())?;
-    }
-    Ok(ClosedWalks { places, sizes })
 }
 
 /// The walks of successors, however many edges meet at a node, cut where they return to one.
@@ -79,34 +53,29 @@ fn cut_walks<'a>(
     alloc: Global,
     edges: &[Edge],
     departures: Vec<Departure<'a>>,
-    next: Vec<Option<usize>>,
+    next: Vec<usize>,
 ) -> Result<ClosedWalks, OutOfMemory>
     requires sided { IsSided edges.now }
     requires departures { AreDepartures edges.now departures.items }
     requires sized { length next.items ≡ length edges.now }
     requires first { (i : ℕ) → i < length edges.now
         → IsFirstMet (whole_edges edges.now) (edge_at (whole_edges edges.now) i)
-        (after next.items i) }
+        (after (total_map next.items) i) }
     ensures { IfOk result (λ v. AreRingsAlong edges.now v.places.items v.sizes.items) }
 {
-    let numbers = numbers_of(alloc, edges, departures)?;
+    let nodes = nodes_by(alloc, edges, departures)?;
     let walks = walks_of(alloc, next)?;
-    let pieces = pieces_of(alloc, walks, numbers)?;
-    along(alloc, &pieces, edges.len())
+    pieces(alloc, &walks.places, &walks.sizes, &nodes)
 }
 
 /// The walks of successors if no two edges leave one point: none is cut.
-fn whole_walks(
-    alloc: Global,
-    edges: &[Edge],
-    next: Vec<Option<usize>>,
-) -> Result<ClosedWalks, OutOfMemory>
+fn whole_walks(alloc: Global, edges: &[Edge], next: Vec<usize>) -> Result<ClosedWalks, OutOfMemory>
     requires sided { IsSided edges.now }
     requires apart { LeaveApart edges.now }
     requires sized { length next.items ≡ length edges.now }
     requires first { (i : ℕ) → i < length edges.now
         → IsFirstMet (whole_edges edges.now) (edge_at (whole_edges edges.now) i)
-        (after next.items i) }
+        (after (total_map next.items) i) }
     ensures { IfOk result (λ v. AreRingsAlong edges.now v.places.items v.sizes.items) }
 {
     walks_of(alloc, next)
@@ -171,31 +140,6 @@ pub fn rings_of(alloc: Global, edges: Edges) -> Result<Rings, OutOfMemory>
     }
     let walks = ring_walks(alloc, edges.as_slice())?;
     rings_by_walks(alloc, edges, walks)
-}
-
-/// The pieces that are cut off walks. `places` has the walks one after the other, and `sizes` how many places each has.
-fn pieces(
-    alloc: Global,
-    places: &[usize],
-    sizes: &[usize],
-    numbers: &[usize],
-) -> Result<Vec<Vec<usize>>, OutOfMemory>
-    requires walks { (walks : List (List ℕ)) × StandAlong walks places.now sizes.now
-        × All (λ w. All (λ i. i < length numbers.now) w) walks }
-    requires room { All (λ k. k < length numbers.now) numbers.now }
-    ensures { IfOk result (λ v. (walks : List (List ℕ)) → StandAlong walks places.now sizes.now
-        → AreAllCut numbers.now walks (map (λ p. p.items) v.items)) }
-{
-    let mut depths = vec![in alloc; 0; numbers.len()]?;
-    let mut pieces = Vec::new(alloc);
-    let mut left = places;
-    for &size in sizes {
-        let (walk, rest) = left.split_at(size);
-        let mut cut = cut(alloc, walk, numbers, &mut depths)?;
-        pieces.append(&mut cut)?;
-        left = rest;
-    }
-    Ok(pieces)
 }
 
 /// The edges at these places.

@@ -1,4 +1,4 @@
-//! Departures that are in order of their sort keys, put in order round each point.
+//! Departures that are in order of their ranks, put in order round each point.
 ghost use Rattle.std.specs.Prelude.{◌<◌, ◌≤◌, IsPermutation, length};
 
 use crate::departure::Departure;
@@ -11,7 +11,7 @@ fn compare_round(departure: &Departure, other: &Departure) -> Ordering {
     clockwise(EAST, departure.edge.dir(), other.edge.dir())
 }
 
-/// Where the departures with the sort key of the one at `from` end.
+/// Where the departures with the rank of the one at `from` end.
 fn end_of_key(departures: &[Departure], from: usize) -> usize
     requires { from < length departures.now }
     ensures behind { from < result }
@@ -24,7 +24,7 @@ fn end_of_key(departures: &[Departure], from: usize) -> usize
     end
 }
 
-/// Puts departures in order round each point, where they are ordered by their sort keys.
+/// Puts departures in order round each point, where they are ordered by their ranks.
 pub fn sort_rounds(departures: &mut [Departure])
     ensures { IsPermutation departures.old departures.new }
 {

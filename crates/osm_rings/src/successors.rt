@@ -4,8 +4,9 @@ ghost use Rattle.plane.specs.Vector.{east};
 ghost use Rattle.osm_geom.specs.declared.edge.Edge.{Edge};
 ghost use Rattle.osm_geom.specs.Dir.{vector_along};
 ghost use Rattle.osm_geom.specs.Edge.{direction_of, opposite};
-ghost use Rattle.orbits.specs.Orbits.{after};
+ghost use Rattle.orbits.specs.Orbits.{after, total_map};
 ghost use Rattle.osm_geom.specs.InPlane.Multiple.{edge_times, product_of_denominators, whole_edges};
+ghost use Rattle.osm_geom.specs.InPlane.Sided.{IsSided};
 ghost use Rattle.lists.specs.Member.{In};
 ghost use Rattle.osm_rings.specs.Clockwise.{is_met_before};
 ghost use Rattle.osm_rings.specs.Numbered.{edge_at};
@@ -95,17 +96,18 @@ fn successor(departures: &[Departure], keys: &[i64], near: &mut usize, edge: &Ed
     Some(departure.place)
 }
 
-/// For each edge the place of its successor.
+/// For each edge of a sided list the place of its successor.
 pub fn successors(
     alloc: Global,
     edges: &[Edge],
     departures: &[Departure],
-) -> Result<Vec<Option<usize>>, OutOfMemory>
-    requires { AreDepartures edges.now departures.now }
+) -> Result<Vec<usize>, OutOfMemory>
+    requires sided { IsSided edges.now }
+    requires departures { AreDepartures edges.now departures.now }
     ensures sized { IfOk result (λ v. length v.items ≡ length edges.now) }
     ensures first { IfOk result (λ v. (i : ℕ) → i < length edges.now
         → IsFirstMet (whole_edges edges.now) (edge_at (whole_edges edges.now) i)
-        (after v.items i)) }
+        (after (total_map v.items) i)) }
 {
     let keys = keys_of(alloc, departures)?;
     // Edges with the same heading mostly end in list order, so each finds its successor near that of the last one.
@@ -113,7 +115,10 @@ pub fn successors(
     let mut next = Vec::with_capacity(alloc, edges.len())?;
     for edge in edges {
         let way = heading(edge);
-        next.push(successor(departures, &keys, &mut near[way], edge))?;
+        match successor(departures, &keys, &mut near[way], edge) {
+            Some(place) => next.push(place)?,
+            None => unreachable!(),
+        }
     }
     Ok(next)
 }

@@ -37,7 +37,7 @@ fn chains_and_cycles(rt: HostRuntime) -> Result<(), Fail> {
 #[test]
 fn cycles_alone(rt: HostRuntime) -> Result<(), OutOfMemory> {
     // 0 -> 3 -> 6 -> 0, 1 -> 5 -> 1 and 2 -> 7 -> 4 -> 2 by turns, and 8 goes on to itself.
-    let next = [3, 5, 7, 6, 2, 1, 0, 4, 8].map(Some);
+    let next = [3, 5, 7, 6, 2, 1, 0, 4, 8];
     let found = cycles(rt.alloc(), &next)?;
     let places = [0, 3, 6, 1, 5, 2, 7, 4, 8];
     assert_eq!(rt; found.places.as_slice(), places.as_slice());

@@ -16,11 +16,11 @@ returns-then-is_empty c s =
 
 pub returns-then-found-len : goal.returns-then-found-len
 returns-then-found-len c s =
-    let away = c.in_order-away.result.items in
-    let counts = c.in_ok-left.ensures.counts s in
+    let away = c.deref.result.now in let found = c.take_away-found.result in
+    let lent : away ≡ c.in_order-away.result.items = c.deref.ensures.value in
+    let counts = c.take_away-found.ensures.counts s in
     let told = ap (count_of seg_cmp s) c.from_vec-then-found-len.ensures in
-    let lent : c.deref.result.now ≡ c.args.segs.items = c.deref.ensures.value in
-    let of_segs = ap (count_of seg_cmp s) lent ∙ c.requires s in
-    let whole : count_of seg_cmp s (take c.in_ok-left.found c.deref-2.result.now) ≡ count_of seg_cmp s (all_segments c.args.left_out.now) =
-    ap (count_of seg_cmp s) (take_all c.in_ok-left.found c.deref-2.result.now (let h = c.if-found-len.true in let l = c.len.ensures in let e = ap length c.deref-2.ensures.value in omega arith)) ∙ (ap (count_of seg_cmp s) c.deref-2.ensures.value ∙ (c.in_order-away.ensures s ∙ ap (count_of seg_cmp s) c.in_ok-all_segments.ensures)) in
+    let all = c.requires s in
+    let whole : count_of seg_cmp s (take found away) ≡ count_of seg_cmp s (all_segments c.args.left_out.now) =
+    ap (count_of seg_cmp s) (take_all found away (let h = c.if-found-len.true in let l = c.len.ensures in let ok = c.in_order-away.result.ok.0 in let e = ap length lent in omega arith)) ∙ (ap (count_of seg_cmp s) lent ∙ (c.in_order-away.ensures s ∙ ap (count_of seg_cmp s) c.in_ok-all_segments.ensures)) in
     omega arith

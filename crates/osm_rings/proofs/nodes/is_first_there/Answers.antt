@@ -1,7 +1,7 @@
 -- The departure before it tells.
 use Rattle.std.proofs.Common.{sym, ◌∙◌}
 use Rattle.osm_rings.proofs.Starts.{first-of-all, first-there, same-there}
-use Rattle.osm_rings.proofs.departures.is_first_there.Goals as goal
+use Rattle.osm_rings.proofs.nodes.is_first_there.Goals as goal
 
 pub returns-then-place-eq0-clause-first : goal.returns-then-place-eq0-clause-first
 returns-then-place-eq0-clause-first c same d = first-of-all c.args.departures.now c.requires.rising c.args.place c.if-place-eq0.true c.requires.inside d
