@@ -34,7 +34,7 @@ fn come_in_rings(alloc: Global, lines: &str, cuts: &str, wanted: &str) -> Result
 }
 
 /// What lines show, and the lines: outer rings counterclockwise, inner ones clockwise. Each line is a ring.
-const TOUCHED: [(&str, &str); 4] = [
+const TOUCHED: [(&str, &str); 6] = [
     ("square", "0,0 1,0 1,1 0,1 0,0"),
     ("touching triangle", "0,0 4,0 4,4 0,4 0,0; 0,0 1,2 2,1 0,0"),
     (
@@ -44,6 +44,14 @@ const TOUCHED: [(&str, &str); 4] = [
     (
         "three triangles round a node",
         "0,0 4,1 3,3 0,0; 0,0 -1,4 -3,3 0,0; -2,-4 2,-4 0,0 -2,-4",
+    ),
+    (
+        "touching triangle, and another apart",
+        "0,0 4,0 4,4 0,4 0,0; 0,0 1,2 2,1 0,0; 10,1 14,3 10,5 10,1",
+    ),
+    (
+        "two apart, below two that touch and beside them",
+        "0,-9 4,-9 0,-5 0,-9; 0,0 4,1 3,3 0,0; 0,0 -1,4 -3,3 0,0; 10,1 14,3 10,5 10,1",
     ),
 ];
 
