@@ -76,7 +76,7 @@ sides_one exact land a b s t =
 -- ---- what is sorted out, land and water
 
 module _ (exact : SegmentOrderTellsApart) where
-  told_by_counts : (a b : List Seg) → IsRising seg_cmp a → IsRising seg_cmp b → ((s : Seg) → count_of seg_cmp s a ≡ count_of seg_cmp s b) → a ≡ b
+  pub told_by_counts : (a b : List Seg) → IsRising seg_cmp a → IsRising seg_cmp b → ((s : Seg) → count_of seg_cmp s a ≡ count_of seg_cmp s b) → a ≡ b
   told_by_counts = same_rising seg_cmp_total (λ s t. (exact s t).0)
 
   conflicts_one : (segs : List Seg) (a b : List Pair) → AreConflicts segs a → AreConflicts segs b → a ≡ b

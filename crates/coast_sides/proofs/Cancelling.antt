@@ -8,7 +8,8 @@ use Rattle.std.specs.Ordering.{is_eq}
 use Rattle.std.proofs.lemmas.Cmp.{tied_itself}
 use Rattle.std.proofs.lemmas.List.Sums.{count_by-le-length, length-filter, sum_by-append, sum_by-cons}
 use Rattle.lists.specs.Rising.{count_of}
-use Rattle.lists.proofs.ListsKit.{count-cons, equal_from}
+pub use Rattle.lists.proofs.ListsKit.{count-cons}
+use Rattle.lists.proofs.ListsKit.{equal_from}
 
 even_times : (n m : ℕ) → n % 2 ≡ 0 → (n * m) % 2 ≡ 0
 even_times n m e =

@@ -12,7 +12,8 @@ use Rattle.plane.specs.Conflict.{is_along, is_inside, is_parted_by, is_touched_b
 use Rattle.plane.specs.Order.{order}
 use Rattle.plane.specs.Sign.{Minus, Null, Plus, Sign, are_opposite, is_null, is_plus, negated, sign, then_sign}
 use Rattle.plane.specs.Vector.{Vector, orient}
-use Rattle.lists.proofs.ListsKit.{and-left, and-right, int_eq-same, int_eq-true, less_both, less_itself, less_nothing}
+use Rattle.lists.proofs.ListsKit.{and-left, and-right, int_eq-same, int_eq-true, less_itself, less_nothing}
+pub use Rattle.lists.proofs.ListsKit.{less_both}
 use Rattle.plane.proofs.SignKit.{null-is, sign-*, times}
 use Rattle.osm_lattice.specs.declared.loc.Loc.{Loc}
 use Rattle.osm_lattice.specs.declared.seg.Seg.{Seg}
@@ -22,7 +23,8 @@ use Rattle.osm_lattice.specs.Conflict.{are_crossing, are_overlapping, conflict_o
 use Rattle.osm_lattice.specs.Loc.{loc_cmp, vector_of}
 use Rattle.osm_lattice.specs.OrderLaws.{LocationOrderIsPointOrder, LocationOrderTellsApart, ordering_of}
 use Rattle.osm_lattice.specs.Seg.{edge_of, seg_cmp, segment_between, segment_by}
-use Rattle.osm_lattice.proofs.LatticeKit.{before_less, rising_edge, seg_from_ends}
+use Rattle.osm_lattice.proofs.LatticeKit.{before_less, rising_edge}
+pub use Rattle.osm_lattice.proofs.LatticeKit.{seg_from_ends}
 use Rattle.lists.specs.Rising.{IsRising}
 use Rattle.coast_sides.specs.Water.{IsClearOfSide, Meets, is_east, is_north, is_south, is_west, pieces}
 use Rattle.coast_sides.proofs.EvenRings.{loc_cmp_total, seg_cmp_total}

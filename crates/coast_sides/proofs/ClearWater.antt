@@ -33,12 +33,12 @@ use Rattle.coast_sides.proofs.EvenRings.{loc_cmp_total}
 
 -- ---- ends of a list of segments
 
-first_stands : (land : List Seg) (s : Seg) (k : ℕ) → k < length land → get_or land k s ≡ s → Contains (ends_of land) s.a
+pub first_stands : (land : List Seg) (s : Seg) (k : ℕ) → k < length land → get_or land k s ≡ s → Contains (ends_of land) s.a
 first_stands [] s k h e = absurd (omega arith)
 first_stands (t ∷ land) s zero h e = (0, omega arith, ap (λ (u : Seg). u.a) e)
 first_stands (t ∷ land) s (suc k) h e = let r = first_stands land s k (omega arith) e in (suc (suc r.0), (let l = r.1 in omega arith), r.2)
 
-second_stands : (land : List Seg) (s : Seg) (k : ℕ) → k < length land → get_or land k s ≡ s → Contains (ends_of land) s.b
+pub second_stands : (land : List Seg) (s : Seg) (k : ℕ) → k < length land → get_or land k s ≡ s → Contains (ends_of land) s.b
 second_stands [] s k h e = absurd (omega arith)
 second_stands (t ∷ land) s zero h e = (1, omega arith, ap (λ (u : Seg). u.b) e)
 second_stands (t ∷ land) s (suc k) h e = let r = second_stands land s k (omega arith) e in (suc (suc r.0), (let l = r.1 in omega arith), r.2)

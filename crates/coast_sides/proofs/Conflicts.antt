@@ -15,7 +15,8 @@ use Rattle.osm_lattice.specs.OrderLaws.{LocationOrderTellsApart, SegmentOrderTel
 use Rattle.osm_lattice.specs.declared.loc.Loc.{Loc}
 use Rattle.osm_lattice.specs.Seg.{seg_cmp}
 use Rattle.lists.specs.Rising.{count_of}
-use Rattle.lists.proofs.ListsKit.{equal_from, first_member, later_member, member_cases, no_member, not-true-out, or-out}
+pub use Rattle.lists.proofs.ListsKit.{equal_from}
+use Rattle.lists.proofs.ListsKit.{first_member, later_member, member_cases, no_member, not-true-out, or-out}
 use Rattle.osm_segments.specs.Counts.{AreDistinct}
 use Rattle.osm_segments.specs.Pairs.{conflicts_of, pair_of}
 use Rattle.osm_segments.specs.declared.pairs.Pair.{Pair}

@@ -21,11 +21,13 @@ mod ShorterLines
 mod SideNodes
 mod SidedSegments
 mod SomeMember
-mod SoughtSteps
-mod StandingSteps
 mod StepOrders
 mod TakenAway
 mod WaterLaws
+mod PassedEnds
+mod RingDirections
+mod LandJunctions
+mod EndOrders
 mod OneChoice
 mod RingRanks
 mod RankedPlaces

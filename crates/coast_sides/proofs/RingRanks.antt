@@ -8,7 +8,7 @@ use Rattle.std.specs.Prelude.{int_lt, nat_eq, nat_lt}
 use Rattle.std.proofs.lemmas.Bool.{cases_order, false≢true}
 use Rattle.std.proofs.lemmas.Cmp.{back_total, int_cmp_total, nat_cmp_total, nat_eq_equiv, on_total, then_total, tied_back, tied_itself}
 use Rattle.std.proofs.lemmas.List.{get_or_default}
-use Rattle.lists.proofs.ListsKit.{less_from}
+pub use Rattle.lists.proofs.ListsKit.{less_from}
 use Rattle.coast_rings.specs.declared.ring.CoastRing.{CoastRing}
 use Rattle.coast_sides.specs.Choice.{outranks}
 use Rattle.coast_sides.specs.CutSorting.{NamesOfRingsRise}

@@ -39,10 +39,10 @@ zip_short (x ∷ xs) (y ∷ ys) = let r = zip_short xs ys in omega arith
 abbrev pub after_round : ℕ → ℕ → ℕ
 after_round i n = if nat_lt (i + 1) n then i + 1 else 0
 
-test_yes : (i n : ℕ) → i < n → nat_lt i n ≡ true
+pub test_yes : (i n : ℕ) → i < n → nat_lt i n ≡ true
 test_yes i n h = grind (arith, nat_tests)
 
-test_no : (i n : ℕ) → n ≤ i → nat_lt i n ≡ false
+pub test_no : (i n : ℕ) → n ≤ i → nat_lt i n ≡ false
 test_no i n h = grind (arith, nat_tests)
 
 pub steps_at : (path : List Loc) (i : ℕ) (p q : Loc) → slice_get path i ≡ Some p → slice_get path (after_round i (length path)) ≡ Some q → slice_get (steps_round path) i ≡ Some (p, q)

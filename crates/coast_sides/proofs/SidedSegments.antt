@@ -12,7 +12,8 @@ use Rattle.plane.specs.Conflict.{IsClearOf}
 use Rattle.plane.specs.Edge as plane
 use Rattle.plane.specs.Sign.{is_plus, negated}
 use Rattle.plane.specs.Vector.{one_at, same_point}
-use Rattle.plane.proofs.PlaneKit.{order-reversed, same_point-refl, same_point-true}
+use Rattle.plane.proofs.PlaneKit.{order-reversed, same_point-true}
+pub use Rattle.plane.proofs.PlaneKit.{same_point-refl}
 use Rattle.plane_lists.specs.Lists.Ring.{segments_of}
 use Rattle.plane_lists.specs.Lists.Sided as winding
 use Rattle.lists.specs.Member.{EachPair}
@@ -35,7 +36,7 @@ use Rattle.osm_sides.specs.Survivors.{plane_edges_of}
 use Rattle.osm_geom.specs.InPlane.Multiple.{edge_times, edges_times, point_times}
 use Rattle.osm_geom.specs.InPlane.Sided.{IsSided}
 use Rattle.osm_geom.specs.InPlane.SidedLaws.{IsLattice, LatticeIsSided}
-use Rattle.osm_geom.proofs.EdgesKit.{lattice_point}
+pub use Rattle.osm_geom.proofs.EdgesKit.{lattice_point}
 use Rattle.coast_sides.specs.Land.{HaveNoConflicts}
 use Rattle.coast_sides.specs.Water.{segment_of_carrier, segments_under}
 use Rattle.coast_sides.proofs.EvenRings.{ends_are, ends_at, one, rising_none, seg_cmp_total}
@@ -77,10 +78,10 @@ segment_by false = segment_back
 segment_is : (e : Edge) (w : IsWholeSegment e) → plane.segment_of (edge_times 1 e) ≡ edge_of w.segment
 segment_is e w = ap plane.segment_of (ends_on e w.segment w.forward w.from w.to) ∙ segment_by w.forward w.segment
 
-along_more : (e : Edge) (es : List Edge) (w : IsWholeSegment e) → segments_under (e ∷ es) ≡ w.segment ∷ segments_under es
+pub along_more : (e : Edge) (es : List Edge) (w : IsWholeSegment e) → segments_under (e ∷ es) ≡ w.segment ∷ segments_under es
 along_more e es w = ap (λ c. cons_option (segment_of_carrier c) (segments_under es)) w.carrier
 
-later : (e : Edge) (es : List Edge) → All IsWholeSegment (e ∷ es) → All IsWholeSegment es
+pub later : (e : Edge) (es : List Edge) → All IsWholeSegment (e ∷ es) → All IsWholeSegment es
 later e es whole k d h = whole (suc k) d (omega arith)
 
 segments_are : (es : List Edge) → All IsWholeSegment es → segments_of (edges_times 1 es) ≡ plane_edges_of (segments_under es)
@@ -142,7 +143,7 @@ ends_sum : LocationOrderTellsApart → (p : Loc) (s : Seg) (b : Bool) (e : plane
 ends_sum exact p s true e is = let a = one_is exact p s.a in let b = one_is exact p s.b in let f = ap (λ (z : plane.Edge). one_at (vector_of p) z.from) is in let t = ap (λ (z : plane.Edge). one_at (vector_of p) z.to) is in omega arith
 ends_sum exact p s false e is = let a = one_is exact p s.a in let b = one_is exact p s.b in let f = ap (λ (z : plane.Edge). one_at (vector_of p) z.from) is in let t = ap (λ (z : plane.Edge). one_at (vector_of p) z.to) is in omega arith
 
-all_ends : LocationOrderTellsApart → (p : Loc) (es : List Edge) → All IsWholeSegment es
+pub all_ends : LocationOrderTellsApart → (p : Loc) (es : List Edge) → All IsWholeSegment es
     → sum_by (λ (e : plane.Edge). one_at (vector_of p) e.from) (edges_times 1 es) + sum_by (λ (e : plane.Edge). one_at (vector_of p) e.to) (edges_times 1 es) ≡ sum_by (ends_at p) (segments_under es)
 all_ends exact p [] whole = refl
 all_ends exact p (e ∷ es) whole =

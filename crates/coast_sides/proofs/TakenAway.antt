@@ -1,6 +1,10 @@
 -- The segments of kept rings: those of all rings, without those of the rings that are left out.
-use Rattle.std.proofs.Common.{◌≡◌, ℕ, ◌+◌, ◌<◌, ◌%◌, Bool, true, false, cond, not, List, [], ◌∷◌, ◌++◌, filter, length, take, get_or, min, nat_le, refl, sym, ap, ◌∙◌, arith}
+use Rattle.std.proofs.Common.{◌≡◌, ℕ, ◌+◌, ◌<◌, ◌≤◌, ◌%◌, ⊎_elim, AllPairs, Bool, true, false, cond, not, List, [], ◌∷◌, ◌++◌, filter, length, set, take, get_or, min, nat_le, refl, sym, ap, subst, ◌∙◌, arith}
 use Rattle.std.specs.Ordering.{is_eq}
+use Rattle.std.proofs.lemmas.Bool.{cases_lt}
+use Rattle.std.proofs.lemmas.List.{get_or-set_other, get_or-take, get_or_default, length-take, take_more_set}
+use Rattle.std.proofs.lemmas.Grind.{get_or-set_at}
+use Rattle.std.proofs.lemmas.List.Quantifiers.{all_pairs_push}
 use Rattle.std.proofs.lemmas.List.Sums.{sum_by-append, sum_by_more, sum_by_push}
 use Rattle.lists.specs.Rising.{count_of}
 use Rattle.osm_lattice.specs.Seg.{seg_cmp}
@@ -38,6 +42,25 @@ module _ (segs away left : List Seg) (i found : ℕ) (x : Seg) (inside : i < len
       let all = more s in
       let before = so_far s in
       omega arith
+
+-- ---- the order of those that are left
+
+module _ (r : Seg → Seg → Bool) (old now : List Seg) (left i : ℕ) (seg : Seg) (pairs : AllPairs (λ s t. r s t ≡ true) old) (front : left ≤ i) (inside : i < length old) (sized : length now ≡ length old) (is : seg ≡ get_or old i seg)
+    (so_far : AllPairs (λ s t. r s t ≡ true) (take left now)) (ahead : (j k : ℕ) (d : Seg) → j < left → i ≤ k → k < length old → r (get_or now j d) (get_or old k d) ≡ true) where
+  here : (d : Seg) → get_or old i d ≡ seg
+  here d = get_or_default old i d seg inside ∙ sym is
+
+  pub ordered_more : AllPairs (λ s t. r s t ≡ true) (take (left + 1) (set now left seg))
+  ordered_more = subst (AllPairs (λ s t. r s t ≡ true)) (sym (take_more_set now left seg (omega arith))) (all_pairs_push (λ s t. r s t ≡ true) (take left now) seg so_far (λ k d h.
+      let long = length-take left now in
+      let at : get_or (take left now) k d ≡ get_or now k d = get_or-take left now k d (omega arith) in
+      ap (λ (s : Seg). r s seg) at ∙ (ap (λ (t : Seg). r (get_or now k d) t) (sym (here d)) ∙ ahead k i d (omega arith) (omega arith) inside)))
+
+  pub ahead_more : (j k : ℕ) (d : Seg) → j < left + 1 → i + 1 ≤ k → k < length old → r (get_or (set now left seg) j d) (get_or old k d) ≡ true
+  ahead_more j k d h m l = ⊎_elim
+      (λ (b : j < left). ap (λ (s : Seg). r s (get_or old k d)) (get_or-set_other now left j seg d (λ e. absurd (omega arith))) ∙ ahead j k d b (omega arith) l)
+      (λ (b : left ≤ j). let last : j ≡ left = omega arith in ap (λ (s : Seg). r s (get_or old k d)) (ap (λ n. get_or (set now left seg) n d) last ∙ (get_or-set_at now left left seg d refl (omega arith) ∙ sym (here d))) ∙ pairs i k d (omega arith) l)
+      (cases_lt j left)
 
 -- ---- rings kept and left out
 

@@ -5,6 +5,8 @@ pub mod Sorting
 pub mod Water
 pub mod WorldSides
 pub mod WrongWays
+pub mod Junctions
+pub mod KeptSegments
 pub mod RingLand
 pub mod ExistenceLaws
 pub mod OnenessLaws

@@ -1,17 +1,20 @@
 //! The segments that conflict, to be looked up.
 
-ghost use Rattle.std.specs.Prelude.{◌≡◌, ◌||◌, IfOk, OnOk};
+ghost use Rattle.std.specs.Prelude.{◌≡◌, ◌||◌, IfOk, OnOk, min};
 ghost use Rattle.std.specs.List.{list_any};
 ghost use Rattle.std.specs.Option.{option_to_list};
 ghost use Rattle.std.specs.BTreeSet.{contains};
+ghost use Rattle.lists.specs.Rising.{count_of};
 ghost use Rattle.osm_lattice.specs.declared.seg.Seg.{Seg};
 ghost use Rattle.osm_lattice.specs.Seg.{seg_cmp, segment_between};
+ghost use Rattle.osm_segments.specs.Sweep.{EndsRise};
 ghost use Rattle.coast_sides.specs.Segments.{segments_round};
 ghost use Rattle.coast_sides.specs.Sorting.{AreConflicts, is_in_pair};
 
+use crate::end_order::in_end_order;
 use crate::ring_segments::next_round;
 use osm_geom::{Loc, Seg};
-use osm_segments::{Pair, conflicts, distinct_of};
+use osm_segments::{Pair, conflicts, conflicts_along, distinct_of};
 use std::alloc::{AllocError as OutOfMemory, Global};
 use std::collections::BTreeSet;
 
@@ -19,8 +22,23 @@ use std::collections::BTreeSet;
 pub(crate) fn distinct_conflicts(alloc: Global, segs: Vec<Seg>) -> Result<Vec<Pair>, OutOfMemory>
     ensures { IfOk result (λ v. AreConflicts segs.items v.items) }
 {
+    conflicts(alloc, &distinct_of(segs))
+}
+
+/// The same, and the segments, each once, in the order of their upper ends.
+pub(crate) fn conflicts_and_ends(
+    alloc: Global,
+    segs: Vec<Seg>,
+) -> Result<(Vec<Pair>, Vec<Seg>), OutOfMemory>
+    ensures pairs { IfOk result (λ found. AreConflicts segs.items found.0.items) }
+    ensures once { IfOk result (λ found. (s : Seg) → count_of seg_cmp s found.1.items
+        ≡ min 1 (count_of seg_cmp s segs.items)) }
+    ensures rise { IfOk result (λ found. EndsRise found.1.items) }
+{
     let once = distinct_of(segs);
-    conflicts(alloc, &once)
+    let ends = in_end_order(Vec::from_slice(alloc, &once)?);
+    let pairs = conflicts_along(alloc, &once, &ends)?;
+    Ok((pairs, ends))
 }
 
 /// Adds both segments of a pair.

@@ -5,11 +5,13 @@ ghost use Rattle.std.specs.List.{list_any};
 ghost use Rattle.std.specs.BTreeSet.{contains};
 ghost use Rattle.osm_lattice.specs.Seg.{seg_cmp};
 ghost use Rattle.coast_sides.specs.Land.{HaveNoConflicts};
-ghost use Rattle.coast_sides.specs.Segments.{AreRingSegments, all_segments, segments_round};
+ghost use Rattle.coast_sides.specs.KeptSegments.{AreKeptSegments};
+ghost use Rattle.coast_sides.specs.Segments.{all_segments, segments_round};
 ghost use Rattle.coast_sides.specs.Sorting.{IsSorted};
 
-use crate::conflicting::{distinct_conflicts, runs_along, segments_of};
+use crate::conflicting::{conflicts_and_ends, runs_along, segments_of};
 use crate::cut::Cuts;
+use crate::kept_segments::{EndOrder, KeptSegments};
 use crate::ring_segments::all_segments;
 use crate::sorted::{Pairs, Sorted};
 use crate::taking_away::{in_order, segments_kept};
@@ -71,24 +73,34 @@ fn parted(
 /// Rings sorted out: one is left out where one of its segments conflicts with a segment of any ring, itself included, and
 /// kept otherwise. Nothing cancels before segments are compared.
 ///
-/// No two segments of kept rings conflict. It also gives these, each as often as it occurs. The error is want of memory.
-pub fn sort_out(alloc: Global, rings: &[CoastRing]) -> Result<(Sorted, Segs), OutOfMemory>
+/// No two segments of kept rings conflict. It also gives these, each as often as it occurs, and their order by upper ends among those
+/// of all rings. The error is want of memory.
+pub fn sort_out(alloc: Global, rings: &[CoastRing]) -> Result<(Sorted, KeptSegments), OutOfMemory>
     ensures sorted { IfOk result (λ out. IsSorted rings.now out.0) }
     ensures clear { IfOk result (λ out. HaveNoConflicts (all_segments out.0.kept)) }
-    ensures segments { IfOk result (λ out. AreRingSegments out.0.kept out.1) }
+    ensures segments { IfOk result (λ out. AreKeptSegments out.0.kept out.1) }
 {
     orders_are_exact();
     conflicts_are_symmetric();
     let segs = in_order(all_segments(alloc, rings)?);
-    let pairs = distinct_conflicts(alloc, Vec::from_slice(alloc, &segs)?)?;
+    let (pairs, ends) = conflicts_and_ends(alloc, Vec::from_slice(alloc, &segs)?)?;
     let conflicting = segments_of(alloc, &pairs)?;
     let (kept, left_out) = parted(alloc, rings, &conflicting)?;
-    let segs_kept = segments_kept(alloc, segs, kept.as_slice(), left_out.as_slice())?;
+    let others = in_order(all_segments(alloc, left_out.as_slice())?);
+    let segs = segments_kept(alloc, segs, kept.as_slice(), &others)?;
+    let by_ends = EndOrder {
+        segs: Segs::from_vec(ends),
+        others: Segs::from_vec(others),
+    };
     let sorted = Sorted {
         kept,
         left_out,
         pairs: Pairs::from_vec(pairs),
         cuts: Cuts::new(alloc),
     };
-    Ok((sorted, segs_kept))
+    let segs = KeptSegments {
+        segs,
+        by_ends: Some(by_ends),
+    };
+    Ok((sorted, segs))
 }

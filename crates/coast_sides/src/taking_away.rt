@@ -1,6 +1,6 @@
 //! The segments of kept rings, from those of all.
 
-ghost use Rattle.std.specs.Prelude.{◌≡◌, ◌+◌, ◌<◌, ◌≤◌, IfOk, length, slice_index_or, take, true};
+ghost use Rattle.std.specs.Prelude.{◌≡◌, ◌+◌, ◌<◌, ◌≤◌, AllPairs, Bool, IfOk, length, slice_index_or, take, true};
 ghost use Rattle.lists.specs.Rising.{count_of};
 ghost use Rattle.osm_lattice.specs.declared.seg.Seg.{Seg};
 ghost use Rattle.osm_lattice.specs.Seg.{seg_cmp};
@@ -29,11 +29,13 @@ fn is_next(away: &[Seg], next: usize, seg: Seg) -> bool
 }
 
 /// Takes others away from segments, where they stand, and tells how many of the others were found among them: all, if both
-/// lists are in order and the segments have them.
-fn take_away(segs: &mut Vec<Seg>, away: &[Seg]) -> usize
+/// lists are in order and the segments have them. Those that are left stand in their order.
+pub(crate) fn take_away(segs: &mut Vec<Seg>, away: &[Seg]) -> usize
     ensures within { result ≤ length away.now }
     ensures counts { (s : Seg) → count_of seg_cmp s segs.new.items
         + count_of seg_cmp s (take result away.now) ≡ count_of seg_cmp s segs.old.items }
+    ensures order { (r : Seg → Seg → Bool) → AllPairs (λ s t. r s t ≡ true) segs.old.items
+        → AllPairs (λ s t. r s t ≡ true) segs.new.items }
 {
     let mut found = 0;
     let mut left = 0;
@@ -50,25 +52,20 @@ fn take_away(segs: &mut Vec<Seg>, away: &[Seg]) -> usize
     found
 }
 
-/// The segments of kept rings, from those of all, which are in order: those of rings that are left out are taken away.
+/// The segments of kept rings, from those of all: the others are taken away.
 ///
-/// Ways: all of them, if no ring is left out; those that are left once the others are found; all others ring by ring.
+/// Ways: all of them, if there are no others; those that are left once the others are found; all else ring by ring.
 pub(crate) fn segments_kept(
     alloc: Global,
     mut segs: Vec<Seg>,
     kept: &[CoastRing],
-    left_out: &[CoastRing],
+    others: &[Seg],
 ) -> Result<Segs, OutOfMemory>
     requires { (s : Seg) → count_of seg_cmp s segs.items
-        ≡ count_of seg_cmp s (all_segments kept.now) + count_of seg_cmp s (all_segments left_out.now) }
+        ≡ count_of seg_cmp s (all_segments kept.now) + count_of seg_cmp s others.now }
     ensures { IfOk result (AreRingSegments kept.now) }
 {
-    if left_out.is_empty() {
-        return Ok(Segs::from_vec(segs));
-    }
-    let away = in_order(all_segments(alloc, left_out)?);
-    let found = take_away(&mut segs, &away);
-    if found == away.len() {
+    if take_away(&mut segs, others) == others.len() {
         return Ok(Segs::from_vec(segs));
     }
     Ok(Segs::from_vec(all_segments(alloc, kept)?))

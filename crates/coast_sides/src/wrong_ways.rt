@@ -1,144 +1,85 @@
 //! Rings that run the wrong way: against an edge, which has land on its left.
 
-ghost use Rattle.std.specs.Prelude.{◌≡◌, ◌++◌, ◌∷◌, ◌||◌, [], if◌then◌else◌, IfOk, OnOk, false, filter, map};
+ghost use Rattle.std.specs.Prelude.{◌≡◌, ◌≢◌, ◌++◌, ◌∷◌, [], All, if◌then◌else◌, IfOk, OnOk, false, filter, map, true};
 ghost use Rattle.std.specs.List.{list_any};
-ghost use Rattle.std.specs.Ordering.{is_eq};
+ghost use Rattle.std.specs.List.Sorted.{IsSorted};
+ghost use Rattle.lists.specs.Rising.{IsRising};
+ghost use Rattle.osm_geom.specs.WholeSegment.{IsWholeSegment};
+ghost use Rattle.osm_lattice.specs.Loc.{loc_cmp};
+ghost use Rattle.osm_lattice.specs.Seg.{seg_cmp};
+ghost use Rattle.coast_sides.specs.Junctions.{AllRunOn, AreJunctions, RunsOn, is_one_of};
 ghost use Rattle.coast_sides.specs.Segments.{steps_round};
-ghost use Rattle.coast_sides.specs.WrongWays.{StepsAreInOrder, rises, runs_against, runs_along, stands_in, step_cmp, turned};
+ghost use Rattle.coast_sides.specs.Water.{segments_under};
+ghost use Rattle.coast_sides.specs.WrongWays.{comes_before, runs_against, runs_between};
 
 use crate::ring_segments::next_round;
-use crate::sought::sought_near;
 use coast_rings::CoastRing;
-use osm_geom::{Edge, Ids, Loc, Point, orders_are_exact};
+use lists::is_among;
+use osm_geom::{Carrier, Edge, Ids, Loc, Point, Seg, orders_are_exact};
 use std::alloc::{AllocError as OutOfMemory, Global};
 
-/// A step from one location to another.
-#[derive(Clone, Copy, Debug, PartialEq, Eq, PartialOrd, Ord)]
-pub struct Step {
-    pub from: Loc,
-    pub to: Loc,
-}
-
-/// The step back.
-fn turned(step: Step) -> Step
-    ensures { result ≡ turned step }
+/// Whether an edge runs along a segment that comes before this one.
+fn is_before(edge: &Edge, seg: Seg) -> bool
+    ensures { result ≡ comes_before seg edge.now.carrier }
 {
-    Step {
-        from: step.to,
-        to: step.from,
+    match edge.carrier {
+        Carrier::OfSeg(other) => other < seg,
+        Carrier::Vertical(_) | Carrier::Horizontal(_) => false,
     }
 }
 
-/// Whether a step goes to a later location.
-fn rises(step: Step) -> bool
-    ensures { result ≡ rises step }
+/// Whether an edge runs from one location to another.
+fn runs_between(edge: &Edge, from: Loc, to: Loc) -> bool
+    ensures { result ≡ runs_between from to edge.now }
 {
-    step.from.cmp(&step.to).is_lt()
+    if let (Point::Lattice(first), Point::Lattice(last)) = (edge.from, edge.to) {
+        return first.cmp(&from).is_eq() && last.cmp(&to).is_eq();
+    }
+    false
 }
 
-/// Steps to be looked up: those that rise, and those that fall, which are turned.
-///
-/// So the steps along edges that are in order of their lower ends are in order in both lists.
-#[derive(Drop)]
-pub(crate) struct Steps {
-    pub rising: Vec<Step>,
-    pub falling: Vec<Step>,
-}
-
-/// Adds a step.
-fn add_step(steps: &mut Steps, step: Step) -> Result<(), OutOfMemory>
-    ensures { OnOk result ((s : Step) → stands_in steps.new s
-        ≡ (stands_in steps.old s || is_eq (step_cmp step s))) }
+/// Whether some edge runs from one location to another, of edges in order of their segments.
+fn has_edge(edges: &[Edge], from: Loc, to: Loc) -> bool
+    requires whole { All IsWholeSegment edges.now }
+    requires rising { IsRising seg_cmp (segments_under edges.now) }
+    ensures { result ≡ list_any (runs_between from to) edges.now }
 {
     orders_are_exact();
-    if rises(step) {
-        steps.rising.push(step)?;
-    } else {
-        steps.falling.push(turned(step))?;
-    }
-    Ok(())
+    let Some(seg) = Seg::new(from, to) else {
+        return false;
+    };
+    let place = edges.partition_point(|edge| is_before(edge, seg));
+    place < edges.len() && runs_between(&edges[place], from, to)
 }
 
-/// Adds the step along an edge.
-fn add_edge(steps: &mut Steps, edge: &Edge) -> Result<(), OutOfMemory>
-    ensures { OnOk result ((s : Step) → stands_in steps.new s
-        ≡ (stands_in steps.old s || runs_along s edge.now)) }
+/// Whether a ring that runs along an edge to a node runs along one behind it, too: the node is no junction, and the ring neither
+/// stays nor turns back there.
+fn goes_on(junctions: &[Loc], before: Loc, node: Loc, after: Loc) -> bool
+    requires { IsSorted loc_cmp junctions.now }
+    ensures moves { result ≡ true → before ≢ node }
+    ensures ahead { result ≡ true → before ≢ after }
+    ensures plain { result ≡ true → is_one_of junctions.now node ≡ false }
 {
-    if let (Point::Lattice(from), Point::Lattice(to)) = (edge.from, edge.to) {
-        add_step(steps, Step { from, to })?;
-    }
-    Ok(())
+    orders_are_exact();
+    before != node && before != after && !is_among(junctions, &node)
 }
 
-/// No steps, with room for those along so many edges, of which about half rise.
-fn no_steps(alloc: Global, edges: usize) -> Result<Steps, OutOfMemory>
-    ensures { IfOk result (λ steps. (s : Step) → stands_in steps s ≡ false) }
-{
-    let room = (edges / 2).saturating_add(edges / 16);
-    Ok(Steps {
-        rising: Vec::with_capacity(alloc, room)?,
-        falling: Vec::with_capacity(alloc, room)?,
-    })
-}
-
-/// The steps along edges, one edge after the other.
-fn steps_by_edges(alloc: Global, edges: &[Edge]) -> Result<Steps, OutOfMemory>
-    ensures { IfOk result (λ steps. (s : Step) → stands_in steps s
-        ≡ list_any (runs_along s) edges.now) }
-{
-    let mut steps = no_steps(alloc, edges.len())?;
-    for edge in edges {
-        add_edge(&mut steps, edge)?;
-    }
-    Ok(steps)
-}
-
-/// The steps along edges, in order.
-fn steps_along(alloc: Global, edges: &[Edge]) -> Result<Steps, OutOfMemory>
-    ensures order { IfOk result StepsAreInOrder }
-    ensures steps { IfOk result (λ steps. (s : Step) → stands_in steps s
-        ≡ list_any (runs_along s) edges.now) }
-{
-    let mut steps = steps_by_edges(alloc, edges)?;
-    steps.rising.sort_unstable();
-    steps.falling.sort_unstable();
-    Ok(steps)
-}
-
-/// Where searches ended: among the steps that rise, and among those that fall. Only speed rests on it.
-#[derive(Clone, Copy)]
-struct Ends {
-    rising: usize,
-    falling: usize,
-}
-
-/// Whether a step is among these, which are in order. The search begins near where the last one ended.
-fn is_among(steps: &Steps, ends: &mut Ends, step: Step) -> bool
-    requires { StepsAreInOrder steps.now }
-    ensures { result ≡ stands_in steps.now step }
-{
-    if rises(step) {
-        let sought = sought_near(&steps.rising, ends.rising, step);
-        ends.rising = sought.place;
-        return sought.is_there;
-    }
-    let sought = sought_near(&steps.falling, ends.falling, turned(step));
-    ends.falling = sought.place;
-    sought.is_there
-}
-
-/// Whether a step of a closed line runs against one of these, which are in order.
-fn meets(steps: &Steps, ends: &mut Ends, path: &[Loc]) -> bool
-    requires { StepsAreInOrder steps.now }
-    ensures { result ≡ list_any (λ step. stands_in steps.now
-        (record { from = step.1; to = step.0 })) (steps_round path.now) }
+/// Whether a step of a closed line runs against an edge.
+///
+/// It looks for an edge where the line begins, and behind each node at which its direction may change.
+fn meets(edges: &[Edge], junctions: &[Loc], path: &[Loc]) -> bool
+    requires junctions { AreJunctions edges.now junctions.now }
+    requires along { RunsOn edges.now junctions.now path.now }
+    ensures { result ≡ list_any (λ step. list_any (runs_between step.1 step.0) edges.now)
+        (steps_round path.now) }
 {
     for place in 0..path.len() {
-        let back = Step {
-            from: path[next_round(place, path.len())],
-            to: path[place],
-        };
-        if is_among(steps, ends, back) {
+        let node = path[place];
+        let after = path[next_round(place, path.len())];
+        if place > 0 && goes_on(junctions, path[place - 1], node, after) {
+            continue;
+        }
+        if has_edge(edges, after, node) {
             return true;
         }
     }
@@ -160,19 +101,17 @@ fn add_name(names: &mut Ids, ring: &CoastRing, is_wrong: bool) -> Result<(), Out
 pub(crate) fn wrong_ways(
     alloc: Global,
     edges: &[Edge],
+    junctions: &[Loc],
     rings: &[CoastRing],
 ) -> Result<Ids, OutOfMemory>
+    requires junctions { AreJunctions edges.now junctions.now }
+    requires along { AllRunOn edges.now junctions.now rings.now }
     ensures { IfOk result (λ names. names
         ≡ map (λ ring. ring.name) (filter (runs_against edges.now) rings.now)) }
 {
-    let steps = steps_along(alloc, edges)?;
     let mut names = Ids::new(alloc);
-    let mut ends = Ends {
-        rising: 0,
-        falling: 0,
-    };
     for ring in rings {
-        let is_wrong = meets(&steps, &mut ends, ring.path.as_slice());
+        let is_wrong = meets(edges, junctions, ring.path.as_slice());
         add_name(&mut names, ring, is_wrong)?;
     }
     Ok(names)

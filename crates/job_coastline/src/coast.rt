@@ -8,7 +8,8 @@ ghost use Rattle.std.specs.Ordering.{int_eq};
 ghost use Rattle.coast_join.specs.Chains.{AreChains};
 ghost use Rattle.coast_join.specs.declared.way.CoastWay.{CoastWay};
 ghost use Rattle.coast_sides.specs.Land.{HaveNoConflicts};
-ghost use Rattle.coast_sides.specs.Segments.{AreRingSegments, all_segments};
+ghost use Rattle.coast_sides.specs.KeptSegments.{AreKeptSegments};
+ghost use Rattle.coast_sides.specs.Segments.{all_segments};
 ghost use Rattle.coast_sides.specs.CutSorting.{IsSortedWith, NamesOfRingsRise};
 ghost use Rattle.job_coastline.specs.CoastSteps.{IsInputOf, JoinsChains, MakesCoast, MakesLand};
 ghost use Rattle.job_coastline.specs.LandSteps.{KeepsLand};
@@ -24,8 +25,8 @@ use coast_join::{
     Chain, Closings, CoastInput, Joined, chains, closed_rings, closings, coast_input,
 };
 use coast_rings::CoastRing;
-use coast_sides::{Land, Sorted, cut_and_sort_out, land, sort_out};
-use osm_geom::{Edges, Segs};
+use coast_sides::{KeptSegments, Land, Sorted, cut_and_sort_out, land, sort_out};
+use osm_geom::Edges;
 use osm_objects::Store;
 use osm_text::CoastLine;
 use osm_words::CoastlineSettings;
@@ -102,11 +103,11 @@ fn sorted_of(
     joined: Joined,
     cut_crossings: bool,
     lines: &mut Vec<CoastLine>,
-) -> Result<(Sorted, Segs), OutOfMemory>
+) -> Result<(Sorted, KeptSegments), OutOfMemory>
     requires { NamesOfRingsRise joined.rings }
     ensures sorted { IfOk result (λ out. IsSortedWith cut_crossings joined.rings out.0) }
     ensures clear { IfOk result (λ out. HaveNoConflicts (all_segments out.0.kept)) }
-    ensures segments { IfOk result (λ out. AreRingSegments out.0.kept out.1) }
+    ensures segments { IfOk result (λ out. AreKeptSegments out.0.kept out.1) }
     ensures told { OnOk result (lines.new.items
         ≡ lines.old.items ++ map unclosed_line joined.unclosed) }
 {
@@ -144,11 +145,11 @@ fn add_land(alloc: Global, land: &Land, lines: &mut Vec<CoastLine>) -> Result<()
 fn kept_land(
     alloc: Global,
     kept: &[CoastRing],
-    segs: Segs,
+    segs: KeptSegments,
     lines: &mut Vec<CoastLine>,
 ) -> Result<Edges, OutOfMemory>
     requires clear { HaveNoConflicts (all_segments kept.now) }
-    requires segments { AreRingSegments kept.now segs }
+    requires segments { AreKeptSegments kept.now segs }
     ensures { IfOk result (λ edges. KeepsLand kept.now edges lines.old.items lines.new.items) }
 {
     let land = land(alloc, kept, segs)?;
@@ -160,11 +161,11 @@ fn kept_land(
 fn sorted_land(
     alloc: Global,
     sorted: &Sorted,
-    segs: Segs,
+    segs: KeptSegments,
     lines: &mut Vec<CoastLine>,
 ) -> Result<Edges, OutOfMemory>
     requires clear { HaveNoConflicts (all_segments sorted.now.kept) }
-    requires segments { AreRingSegments sorted.now.kept segs }
+    requires segments { AreKeptSegments sorted.now.kept segs }
     ensures { IfOk result (λ edges. MakesLand sorted.now edges lines.old.items lines.new.items) }
 {
     add_sorted(alloc, sorted, lines)?;
@@ -175,11 +176,11 @@ fn sorted_land(
 fn land_of(
     alloc: Global,
     sorted: Sorted,
-    segs: Segs,
+    segs: KeptSegments,
     lines: &mut Vec<CoastLine>,
 ) -> Result<Edges, OutOfMemory>
     requires clear { HaveNoConflicts (all_segments sorted.kept) }
-    requires segments { AreRingSegments sorted.kept segs }
+    requires segments { AreKeptSegments sorted.kept segs }
     ensures { IfOk result (λ edges. MakesLand sorted edges lines.old.items lines.new.items) }
 {
     sorted_land(alloc, &sorted, segs, lines)

@@ -19,7 +19,7 @@ pub use counts::{
 };
 pub use laws::{conflicts_have_their_kind, repeats_are_one, repeats_exist};
 pub use outline::{Outline, outline_of};
-pub use pairs::{Pair, conflict_places, conflicts, pair_at};
+pub use pairs::{Pair, conflict_places, conflicts, conflicts_along, pair_at};
 pub use places::Places;
 pub use sweep::finding::place_in_status;
 pub use sweep::steps::in_order_of_ends;

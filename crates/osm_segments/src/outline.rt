@@ -48,6 +48,16 @@ impl Outline {
         Outline { segs, ends: None }
     }
 
+    /// The same of segments that are also given in the order of their upper ends.
+    pub fn sorted(segs: Vec<Seg>, ends: Vec<Seg>) -> Outline
+        requires outline { IsOutline segs.items }
+        requires ends { AreByEnds segs.items ends.items }
+        ensures { result ≡ segs.items }
+    {
+        let ends = Some(ends);
+        Outline { segs, ends }
+    }
+
     /// The segments, in order.
     pub fn as_slice(&self) -> &[Seg]
         ensures segments { result.now ≡ self.now }

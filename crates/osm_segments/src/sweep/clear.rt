@@ -80,11 +80,26 @@ pub fn is_clear_by_ends(alloc: Global, segs: &[Seg]) -> Result<bool, OutOfMemory
     is_clear(alloc, segs, &ends)
 }
 
-/// Few segments without which the others, of those in strict order, have no conflict, if one sweep finds them.
+/// Few segments without which the others, of those in strict order, have no conflict, if one sweep finds them. The segments are also
+/// given in the order of their upper ends.
+pub fn few_in_the_way_along(
+    alloc: Global,
+    segs: &[Seg],
+    ends: &[Seg],
+) -> Result<Option<Vec<Seg>>, OutOfMemory>
+    requires rising { IsRising seg_cmp segs.now }
+    requires moved { IsPermutation segs.now ends.now }
+    requires rise { EndsRise ends.now }
+    ensures { IfOk result (λ found. IfSome found (λ v. AreInTheWay segs.now v.items)) }
+{
+    in_the_way(alloc, segs, ends, FEW)
+}
+
+/// The same of segments that aren't given in the order of their upper ends. Their list in that order goes once the sweep has ended.
 pub fn few_in_the_way(alloc: Global, segs: &[Seg]) -> Result<Option<Vec<Seg>>, OutOfMemory>
     requires { IsRising seg_cmp segs.now }
     ensures { IfOk result (λ found. IfSome found (λ v. AreInTheWay segs.now v.items)) }
 {
     let ends = by_ends(alloc, segs)?;
-    in_the_way(alloc, segs, &ends, FEW)
+    few_in_the_way_along(alloc, segs, &ends)
 }

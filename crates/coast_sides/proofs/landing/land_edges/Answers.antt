@@ -10,14 +10,14 @@ use Rattle.coast_sides.specs.Land.{parity_at}
 use Rattle.coast_sides.proofs.Clearing.{left_parity}
 use Rattle.coast_sides.proofs.landing.land_edges.Goals as goal
 
-pub new-requires : goal.new-requires
-new-requires c = record { rising = c.requires.rising; clear = c.requires.clear; even = c.requires.even }
+pub sorted-requires-clause-outline : goal.sorted-requires-clause-outline
+sorted-requires-clause-outline c = record { rising = c.requires.rising; clear = c.requires.clear; even = c.requires.even }
 
 pub returns : goal.returns
 returns c = λ segs are.
     let left = c.args.left.items in
-    let directed = subst (λ (ss : List Seg). AreDirected ss c.in_ok-edges.edges.items) c.new.ensures c.in_ok-edges.ensures.odd_side in
-    let counts = subst (λ (ss : List Seg). CountsParity ss c.in_ok-edges.edges.items) c.new.ensures c.in_ok-edges.ensures.parity in
+    let directed = subst (λ (ss : List Seg). AreDirected ss c.in_ok-edges.edges.items) c.sorted.ensures c.in_ok-edges.ensures.odd_side in
+    let counts = subst (λ (ss : List Seg). CountsParity ss c.in_ok-edges.edges.items) c.sorted.ensures c.in_ok-edges.ensures.parity in
     let same : c.in_ok-edges.edges.items ≡ c.from_vec.result = sym c.from_vec.ensures in
     record {
       survivors = left;

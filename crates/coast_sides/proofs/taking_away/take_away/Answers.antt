@@ -1,9 +1,9 @@
 -- One segment more is found among those to be taken away, or put behind those that are left.
-use Rattle.std.proofs.Common.{ap, arith, get_or, length, set, take, ◌+◌, ◌<◌, ◌∙◌, ◌≡◌, ◌≤◌}
+use Rattle.std.proofs.Common.{AllPairs, ap, arith, get_or, length, set, subst, sym, take, true, ◌+◌, ◌<◌, ◌∙◌, ◌≡◌, ◌≤◌}
 use Rattle.std.proofs.lemmas.List.{get_or-set_other, length-set, take_all, take_more_set}
 use Rattle.lists.specs.Rising.{count_of}
 use Rattle.osm_lattice.specs.Seg.{seg_cmp}
-use Rattle.coast_sides.proofs.TakenAway.{one_found, one_left}
+use Rattle.coast_sides.proofs.TakenAway.{ahead_more, one_found, one_left, ordered_more}
 use Rattle.coast_sides.proofs.taking_away.take_away.Goals.{else-is_next, then-is_next}
 use Rattle.coast_sides.proofs.taking_away.take_away.Goals as goal
 
@@ -27,6 +27,8 @@ loop-place-preserved c =
             sized = sized;
             unread = λ k d h. so_far.unread k d (omega arith);
             counts = one_found old away (take left segs) i found seg inside is so_far.counts there (c.is_next.ensures.next w.if-is_next.true);
+            ordered = so_far.ordered;
+            ahead = λ r pairs j k d h m l. so_far.ahead r pairs j k d h (omega arith) l;
           })
       | else-is_next w ↦
           let same : c.if-is_next.segs.items ≡ set segs left seg = ap (λ v. v.items) w.segs-is in
@@ -38,6 +40,8 @@ loop-place-preserved c =
             sized = length-set segs left seg ∙ sized;
             unread = λ k d h. get_or-set_other segs left k seg d (λ e. absurd (omega arith)) ∙ so_far.unread k d (omega arith);
             counts = one_left old away (take left segs) i found seg inside is so_far.counts (take (left + 1) (set segs left seg)) (take_more_set segs left seg (omega arith));
+            ordered = λ r pairs. ordered_more r old segs left i seg pairs front inside sized is (so_far.ordered r pairs) (so_far.ahead r pairs);
+            ahead = λ r pairs. ahead_more r old segs left i seg pairs front inside sized is (so_far.ordered r pairs) (so_far.ahead r pairs);
           })
     ]
 
@@ -46,3 +50,6 @@ returns-clause-counts c s =
     let end : length c.args.segs.now.items ≤ c.loop-place.place = (let h = c.loop-place-test.false in let e = c.len-place-end.ensures in let ok = c.args.segs.now.ok.0 in omega arith) in
     ap (λ xs. count_of seg_cmp s xs + count_of seg_cmp s (take c.loop-place.found c.args.away.now)) c.truncate.ensures.items
     ∙ (c.loop-place.invariant.counts s ∙ ap (count_of seg_cmp s) (take_all c.loop-place.place c.args.segs.now.items end))
+
+pub returns-clause-order : goal.returns-clause-order
+returns-clause-order c r pairs = subst (AllPairs (λ s t. r s t ≡ true)) (sym c.truncate.ensures.items) (c.loop-place.invariant.ordered r pairs)

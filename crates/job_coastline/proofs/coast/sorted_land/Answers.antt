@@ -2,7 +2,7 @@
 use Rattle.std.proofs.Common.{◌≡◌, ◌∙◌, ap, subst, sym, IfOk, List, ◌++◌, append_assoc, map}
 use Rattle.std.proofs.lemmas.Result.{IfOk-weaker}
 use Rattle.coast_rings.specs.declared.ring.CoastRing.{CoastRing}
-use Rattle.coast_sides.specs.Segments.{AreRingSegments}
+use Rattle.coast_sides.specs.KeptSegments.{AreKeptSegments}
 use Rattle.coast_sides.specs.declared.sorted.Sorted.{Sorted}
 use Rattle.osm_geom.specs.declared.edge.Edge.{Edge}
 use Rattle.osm_text.specs.declared.coast.CoastLine.{CoastLine}
@@ -35,4 +35,4 @@ returns c =
     IfOk-weaker c.kept_land.result _ _ (λ edges of_kept. land_made c.args.sorted.now edges c.args.lines.now.items between now c.in_ok-add_sorted.ensures of_kept) keeps
 
 pub kept_land-requires-clause-segments : goal.kept_land-requires-clause-segments
-kept_land-requires-clause-segments c = subst (λ (kept : List CoastRing). AreRingSegments kept c.args.segs) (sym c.as_slice.ensures) c.requires.segments
+kept_land-requires-clause-segments c = subst (λ (kept : List CoastRing). AreKeptSegments kept c.args.segs) (sym c.as_slice.ensures) c.requires.segments
