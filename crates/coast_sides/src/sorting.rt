@@ -73,8 +73,8 @@ fn parted(
 /// Rings sorted out: one is left out where one of its segments conflicts with a segment of any ring, itself included, and
 /// kept otherwise. Nothing cancels before segments are compared.
 ///
-/// No two segments of kept rings conflict. It also gives these, each as often as it occurs, and their order by upper ends among those
-/// of all rings. The error is want of memory.
+/// No two segments of kept rings conflict. It also gives these, each as often as it occurs. The order by upper ends of the segments
+/// of all rings may come with them. The error is want of memory.
 pub fn sort_out(alloc: Global, rings: &[CoastRing]) -> Result<(Sorted, KeptSegments), OutOfMemory>
     ensures sorted { IfOk result (λ out. IsSorted rings.now out.0) }
     ensures clear { IfOk result (λ out. HaveNoConflicts (all_segments out.0.kept)) }

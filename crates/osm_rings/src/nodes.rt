@@ -15,7 +15,7 @@ use std::alloc::{AllocError as OutOfMemory, Global};
 pub struct Nodes {
     /// For each edge the number of the node that it leaves.
     pub numbers: Vec<usize>,
-    /// For each edge whether others leave the same node.
+    /// For each edge whether others may leave the same node: if not, none does.
     pub shared: Vec<bool>,
 }
 
