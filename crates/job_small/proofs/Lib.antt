@@ -1,2 +1,4 @@
+mod Certifying
 mod Filtering
+mod Locating
 pub mod Sampling

@@ -1,2 +1,4 @@
+pub mod Certifying
 pub mod Filtering
+pub mod Locating
 pub mod Sampling

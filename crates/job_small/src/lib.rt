@@ -1,5 +1,8 @@
-//! Two small jobs on top of the coastline job, a module each: the coast alone of an input as OPL, and a sample counted.
+//! Four small jobs, a module each: whether a text is what `export` writes, which areas hold points, the coast alone of an input, and
+//! the counts of a sample.
 #![tactic(auto)]
 
+pub mod certify;
 pub mod filter;
+pub mod locate;
 pub mod sample;

@@ -10,14 +10,14 @@ use Rattle.osm_input.specs.declared.reading.ReadError.{ReadError}
 use Rattle.osm_input.specs.declared.text.TextError.{TextError}
 use Rattle.osm_input.specs.declared.text.TextError.TheVariants.{TooMuchInput}
 use Rattle.osm_job.specs.Whole.{IsAfterText, IsReadThen, IsRightAfterReading, IsTextThen, Whole, input_limit, longest_line}
-use Rattle.job_ask.specs.Certifying.Certify.{IsCertify}
-use Rattle.job_ask.specs.Certifying.Laws.{CertifyIsOne}
 use Rattle.job_coastline.specs.Coastline.{IsCoastline}
 use Rattle.job_export.specs.Export.{IsExport}
+use Rattle.job_small.specs.Certifying.Certify.{IsCertify}
+use Rattle.job_small.specs.Certifying.Laws.{CertifyIsOne}
 use Rattle.job_small.specs.Filtering.Filter.{IsFilter}
 use Rattle.job_small.specs.Filtering.Laws.{FilterIsOne}
-use Rattle.job_ask.specs.Locating.Laws.{LocateIsOne}
-use Rattle.job_ask.specs.Locating.Locate.{IsLocate}
+use Rattle.job_small.specs.Locating.Laws.{LocateIsOne}
+use Rattle.job_small.specs.Locating.Locate.{IsLocate}
 use Rattle.osm_area.specs.OneOutcome.{OutcomeIsOne}
 use Rattle.one_output.specs.OneCoast.Laws.{CoastCountsAreOne, CoastlineIsOne}
 use Rattle.osm_text.specs.Report.{ProblemLineIsOne}

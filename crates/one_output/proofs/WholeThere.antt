@@ -15,14 +15,14 @@ use Rattle.osm_input.specs.Laws.{LinesCount}
 use Rattle.osm_input.specs.Reading.{IsReadAs}
 use Rattle.osm_input.specs.declared.text.TextError.TheVariants as text
 use Rattle.osm_job.specs.Whole.{IsReadThen, IsRightAfterReading, IsTextThen, Whole, ending_of_read, input_limit, longest_line, silent, text_ended}
-use Rattle.job_ask.specs.Certifying.Certify.{IsCertify}
-use Rattle.job_ask.specs.Certifying.Laws.{CertifyExists}
 use Rattle.job_coastline.specs.Coastline.{IsCoastline}
 use Rattle.job_export.specs.Export.{IsExport}
+use Rattle.job_small.specs.Certifying.Certify.{IsCertify}
+use Rattle.job_small.specs.Certifying.Laws.{CertifyExists}
 use Rattle.job_small.specs.Filtering.Filter.{IsFilter}
 use Rattle.job_small.specs.Filtering.Laws.{FiltersExist}
-use Rattle.job_ask.specs.Locating.Laws.{LocatesExist}
-use Rattle.job_ask.specs.Locating.Locate.{IsLocate}
+use Rattle.job_small.specs.Locating.Laws.{LocatesExist}
+use Rattle.job_small.specs.Locating.Locate.{IsLocate}
 use Rattle.one_output.specs.OneCoast.Laws.{CoastCountsExist, CoastlineExists}
 use Rattle.osm_area.specs.Outcome.{OutcomeExists}
 use Rattle.osm_sample.specs.Laws.{SampleHasOneCoast}

@@ -13,10 +13,10 @@ ghost use Rattle.one_output.specs.Laws.{EntryIsOne, ExportIsOne, ObjectsTellTheW
 use crate::one_coast::{
     coast_counts_are_one, coast_counts_exist, coastline_exists, coastline_is_one,
 };
-use job_ask::certify::{certify_exists, certify_is_one};
-use job_ask::locate::{locate_is_one, locates_exist};
 use job_export::export_exists;
+use job_small::certify::{certify_exists, certify_is_one};
 use job_small::filter::{filter_is_one, filters_exist};
+use job_small::locate::{locate_is_one, locates_exist};
 use opl_writer::read_back::read_inputs_can_be_written;
 use osm_area::{outcome_exists, outcome_is_one};
 use osm_input::limit_decides_the_lines;

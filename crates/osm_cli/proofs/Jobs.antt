@@ -17,11 +17,11 @@ use Rattle.osm_job.specs.Texts.{told_texts}
 use Rattle.osm_job.specs.Worked.{Worked}
 use Rattle.osm_job.specs.Written.{IsWrittenBy}
 use Rattle.osm_job.proofs.Taken.{both_kept, input_kept}
-use Rattle.job_ask.specs.Certifying.Certify.{Certifies}
 use Rattle.job_coastline.specs.Coastline.{Coastlines}
 use Rattle.job_export.specs.Export.{Exports}
+use Rattle.job_small.specs.Certifying.Certify.{Certifies}
 use Rattle.job_small.specs.Filtering.Filter.{Filters}
-use Rattle.job_ask.specs.Locating.Locate.{Locates}
+use Rattle.job_small.specs.Locating.Locate.{Locates}
 use Rattle.job_small.specs.Sampling.Sample.{Samples}
 use Rattle.osm_cli.specs.Job.{TookAll, inputs_of, outputs_of}
 use Rattle.osm_cli.specs.Run.{Spares}

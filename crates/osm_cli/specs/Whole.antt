@@ -3,11 +3,11 @@ use Rattle.osm_words.specs.Job.{Job, certify, coastline, export, filter, locate,
 use Rattle.osm_job.specs.Texts.{Texts}
 use Rattle.osm_job.specs.Whole.{IsReadThen, Whole}
 use Rattle.osm_job.specs.Worked.{OverBoth}
-use Rattle.job_ask.specs.Certifying.Certify.{IsCertify}
 use Rattle.job_coastline.specs.Coastline.{IsCoastline}
 use Rattle.job_export.specs.Export.{IsExport}
+use Rattle.job_small.specs.Certifying.Certify.{IsCertify}
 use Rattle.job_small.specs.Filtering.Filter.{IsFilter}
-use Rattle.job_ask.specs.Locating.Locate.{IsLocate}
+use Rattle.job_small.specs.Locating.Locate.{IsLocate}
 use Rattle.job_small.specs.Sampling.Sample.{IsSample}
 use Rattle.osm_cli.specs.Job.{inputs_of}
 

@@ -18,11 +18,11 @@ ghost use Rattle.osm_words.specs.Words.{job_asked};
 
 use crate::last_line::last_line;
 use crate::statuses::status;
-use job_ask::certify::certify_text;
-use job_ask::locate::locate_points;
 use job_coastline::coastline;
 use job_export::export;
+use job_small::certify::certify_text;
 use job_small::filter::filter_coast;
+use job_small::locate::locate_points;
 use job_small::sample::sample;
 use osm_host::{Host, streams_append, write_all_report};
 use osm_job::Ended;

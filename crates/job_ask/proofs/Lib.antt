@@ -1,2 +1,0 @@
-mod Certifying
-mod Locating

@@ -1,5 +1,0 @@
-use Rattle.job_ask.proofs.Certifying.Exported.{certified_are_exports}
-use Rattle.job_ask.proofs.certify.laws.certified_texts_are_exports.Goals as goal
-
-pub returns : goal.returns
-returns c = certified_are_exports c.outcome_exists.ensures c.has_area_exactly.ensures c.right_texts_are_features.ensures

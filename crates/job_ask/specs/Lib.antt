@@ -1,2 +1,0 @@
-pub mod Certifying
-pub mod Locating
