@@ -12,9 +12,6 @@ use std::alloc::{AllocError as OutOfMemory, Global};
 /// How many places from another on are tried one by one.
 const STEPS: usize = 4;
 
-/// How many places before another, and from it on, are searched before more are.
-const WIDTHS: [usize; 2] = [128, 8192];
-
 /// The ranks of the points that departures leave, side by side, so that a search reads few bytes.
 pub fn keys_of(alloc: Global, departures: &[Departure]) -> Result<Vec<i64>, OutOfMemory> {
     let mut keys = Vec::with_capacity(alloc, departures.len())?;
@@ -31,32 +28,13 @@ fn parts_keys(keys: &[i64], place: usize, key: i64) -> bool
     (place == 0 || keys[place - 1] < key) && keys[place] >= key
 }
 
-/// Where `key` begins among keys that rise; None unless that is within so many places of another one.
-fn first_within(keys: &[i64], near: usize, width: usize, key: i64) -> Option<usize> {
-    let from = near.saturating_sub(width).min(keys.len());
-    let end = near.saturating_add(width).min(keys.len());
-    let part = &keys[from..end];
-    if part.first().is_some_and(|first| *first < key)
-        && part.last().is_some_and(|last| *last >= key)
-    {
-        return Some(from + part.partition_point(|other| *other < key));
-    }
-    None
-}
-
-/// Where the departures from p begin, by the ranks. The search starts at `near` and the few places after it, and then goes
-/// further from there.
+/// Where the departures from p begin, by the ranks. The search tries `near` and the few places after it, and then searches all.
 pub(crate) fn guess_first(keys: &[i64], near: usize, p: Point) -> usize
     requires { IsInWorld p }
 {
     let key = rank(&p);
     for place in near..near.saturating_add(STEPS).min(keys.len()) {
         if parts_keys(keys, place, key) {
-            return place;
-        }
-    }
-    for width in WIDTHS {
-        if let Some(place) = first_within(keys, near, width, key) {
             return place;
         }
     }
