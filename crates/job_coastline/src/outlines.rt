@@ -19,7 +19,7 @@ use crate::coast::{Shore, shore_of};
 use coast_join::CoastInput;
 use coast_sides::water;
 use osm_geom::Edges;
-use osm_nest::{Polygon, Polygons, polygons_of};
+use osm_nest::{Polygon, Polygons, polygons};
 use osm_text::CoastLine;
 use osm_words::{CoastlineSettings, OutputPolygons};
 use std::alloc::{AllocError as OutOfMemory, Global};
@@ -87,7 +87,7 @@ fn land_polygons(alloc: Global, asked: bool, land: Edges) -> Result<Polygons, Ou
     ensures sided { IfOk result (λ polygons. AreSided polygons) }
 {
     if asked {
-        polygons_of(alloc, land)
+        polygons(alloc, land)
     } else {
         Ok(Polygons::new(alloc))
     }
@@ -102,7 +102,7 @@ fn water_polygons(alloc: Global, asked: bool, land: &Edges) -> Result<Polygons, 
 {
     if asked {
         let edges = water(alloc, land)?;
-        polygons_of(alloc, edges)
+        polygons(alloc, edges)
     } else {
         Ok(Polygons::new(alloc))
     }

@@ -9,7 +9,7 @@ ghost use Rattle.osm_geom.specs.InPlane.Sided.{IsSided};
 
 use coast_split::Leaf;
 use osm_geom::Loc;
-use osm_nest::{Polygon, polygons_of};
+use osm_nest::{Polygon, polygons};
 use osm_text::{CoastLine, PieceKind, piece_text};
 use std::alloc::{AllocError as OutOfMemory, Global};
 
@@ -102,7 +102,7 @@ fn add_leaf(
     ensures { OnOk result (ArePiecesOf kind leaf pieces.new) }
 {
     add_large(&leaf, pieces)?;
-    let polygons = polygons_of(alloc, leaf.edges)?;
+    let polygons = polygons(alloc, leaf.edges)?;
     add_polygons(alloc, kind, polygons.as_slice(), pieces)
 }
 

@@ -9,13 +9,12 @@ ghost use Rattle.osm_nest.specs.Polygons.{rings_of};
 ghost use Rattle.osm_area.specs.Area.{IsArea};
 ghost use Rattle.osm_area.specs.Made.{IsMade, IsOutlineAmong};
 
-use osm_geom::Seg;
+use osm_geom::{Edges, Seg};
 use osm_nest::{Polygons, nest_rings, rings_may_be_nested};
 use osm_rings::rings;
 use osm_segments::{Outline, outline_of, survivors};
 use osm_sides::direct;
 use std::alloc::{AllocError as OutOfMemory, Global};
-use std::mem;
 
 /// The polygons of an outline. Its segments are directed with their odd sides on the left and cut into rings.
 ///
@@ -28,9 +27,7 @@ pub(crate) fn area(alloc: Global, outline: Outline) -> Result<Polygons, OutOfMem
 {
     let edges = direct(alloc, outline)?;
     rings_may_be_nested();
-    let rings = rings(alloc, &edges)?;
-    // Edges are large: those of a long boundary aren't kept along with its polygons.
-    mem::drop(edges);
+    let rings = rings(alloc, Edges::from_vec(edges))?;
     nest_rings(alloc, rings)
 }
 

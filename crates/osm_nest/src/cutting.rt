@@ -8,29 +8,17 @@ ghost use Rattle.osm_geom.specs.InPlane.Sided.{IsSided};
 use crate::grouping::nest_rings;
 use crate::laws::rings_may_be_nested;
 use crate::polygon::Polygons;
-use osm_geom::{Edge, Edges};
-use osm_rings::{rings, rings_of};
+use osm_geom::Edges;
+use osm_rings::rings;
 use std::alloc::{AllocError as OutOfMemory, Global};
 
 /// The polygons of sided edges: cut into rings, each inner ring put under the outer one that directly encloses it.
-pub fn polygons(alloc: Global, edges: &[Edge]) -> Result<Polygons, OutOfMemory>
-    requires { IsSided edges.now }
-    ensures polygons { IfOk result (λ polygons. ArePolygons edges.now polygons) }
-    ensures sided { IfOk result (λ polygons. AreSided polygons) }
-{
-    rings_may_be_nested();
-    let rings = rings(alloc, edges)?;
-    nest_rings(alloc, rings)
-}
-
-/// What `polygons` gives of edges that aren't needed any more: they go before the rings are nested, and before the rings are made
-/// if they all run along whole segments.
-pub fn polygons_of(alloc: Global, edges: Edges) -> Result<Polygons, OutOfMemory>
+pub fn polygons(alloc: Global, edges: Edges) -> Result<Polygons, OutOfMemory>
     requires { IsSided edges }
     ensures polygons { IfOk result (λ polygons. ArePolygons edges polygons) }
     ensures sided { IfOk result (λ polygons. AreSided polygons) }
 {
     rings_may_be_nested();
-    let rings = rings_of(alloc, edges)?;
+    let rings = rings(alloc, edges)?;
     nest_rings(alloc, rings)
 }

@@ -14,7 +14,7 @@ mod rings_from_least;
 mod sweep;
 pub mod valid_polygons;
 
-pub use cutting::{polygons, polygons_of};
+pub use cutting::polygons;
 pub use grouping::{nest, nest_rings};
 pub use laws::{
     nested_cover_as_rings, nested_have_kinds, nesting_exists, rings_are_clear, rings_may_be_nested,

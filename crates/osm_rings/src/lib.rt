@@ -19,4 +19,4 @@ mod successors;
 pub use laws::{ring_list_of_edges_exists, rings_do_not_cross, successors_are_one_to_one};
 pub use one_list::ring_list_of_edges_is_one;
 pub use ring::{Ring, Rings};
-pub use ring_list::{rings, rings_of};
+pub use ring_list::rings;

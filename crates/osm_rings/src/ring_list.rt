@@ -98,24 +98,6 @@ fn ring_walks(alloc: Global, edges: &[Edge]) -> Result<ClosedWalks, OutOfMemory>
     cut_walks(alloc, edges, departures, next)
 }
 
-/// The rings of a sided list of edges, between any points.
-///
-/// Each edge is in exactly one ring, once, and the edges of a ring are in one walk of successors. By the law
-/// `rings_do_not_cross` no two rings cross. It takes time n log n, however many edges meet at a node. Fails only if memory
-/// runs out.
-///
-/// Ways: up to 32 edges of which no two leave one point (few); all others by sorted departures.
-pub fn rings(alloc: Global, edges: &[Edge]) -> Result<Rings, OutOfMemory>
-    requires { IsSided edges.now }
-    ensures { IfOk result (λ v. AreRingsOf edges.now v) }
-{
-    if let Some(rings) = few_rings(alloc, edges)? {
-        return Ok(rings);
-    }
-    let walks = ring_walks(alloc, edges)?;
-    rings_along(alloc, edges, &walks.places, &walks.sizes)
-}
-
 /// The rings along walks of edges, which go.
 ///
 /// Ways: edges that all run along whole segments, packed, so that they go before the rings are made; all others as they are.
@@ -130,8 +112,14 @@ fn rings_by_walks(alloc: Global, edges: Edges, walks: ClosedWalks) -> Result<Rin
     packed_rings(alloc, &all, &walks.places, &walks.sizes)
 }
 
-/// What `rings` gives of edges that aren't needed any more: they go before the rings are made, if all run along whole segments.
-pub fn rings_of(alloc: Global, edges: Edges) -> Result<Rings, OutOfMemory>
+/// The rings of a sided list of edges, between any points. If all edges run along whole segments, they go before the rings are made.
+///
+/// Each edge is in exactly one ring, once, and the edges of a ring are in one walk of successors. By the law
+/// `rings_do_not_cross` no two rings cross. It takes time n log n, however many edges meet at a node. Fails only if memory
+/// runs out.
+///
+/// Ways: up to 32 edges of which no two leave one point (few); all others by sorted departures.
+pub fn rings(alloc: Global, edges: Edges) -> Result<Rings, OutOfMemory>
     requires { IsSided edges }
     ensures { IfOk result (λ v. AreRingsOf edges v) }
 {

@@ -1,22 +1,10 @@
 //! The polygons of ring lists: which ring lies under which. Each list is nested alone, where each inner ring's encloser is searched, and
 //! beside a ring with nine inner ones, where all are found in one sweep.
-ghost use Rattle.osm_geom.specs.InPlane.Sided.{IsSided};
 
 use crate::drawing::{begins_along, sided};
-use osm_geom::Edge;
-use osm_nest::{Polygon, Polygons, nest_rings, rings_may_be_nested};
-use osm_rings::rings;
-use std::alloc::{AllocError as OutOfMemory, Global};
+use osm_nest::{Polygon, polygons};
+use std::alloc::Global;
 use std::test::Fail;
-
-/// The polygons of sided edges.
-fn polygons(alloc: Global, edges: &[Edge]) -> Result<Polygons, OutOfMemory>
-    requires { IsSided edges.now }
-{
-    rings_may_be_nested();
-    let rings = rings(alloc, edges)?;
-    nest_rings(alloc, rings)
-}
 
 /// Whether a polygon's rings begin where closed lines begin, parted by `;`, and run along them: the outer ring first.
 fn is_along(polygon: &Polygon, lines: &str) -> bool {
@@ -46,7 +34,7 @@ fn are_polygons(polygons: &[Polygon], wanted: &str) -> bool {
 /// Whether the edges along closed lines, or what cuts keep of them, are nested so.
 fn are_nested(alloc: Global, lines: &str, cuts: &str, wanted: &str) -> Result<bool, Fail> {
     let edges = sided(alloc, lines, cuts)?;
-    let polygons = polygons(alloc, edges.as_slice())?;
+    let polygons = polygons(alloc, edges)?;
     Ok(are_polygons(polygons.as_slice(), wanted))
 }
 

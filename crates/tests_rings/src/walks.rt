@@ -2,7 +2,7 @@
 ghost use Rattle.osm_geom.specs.InPlane.Sided.{IsSided};
 
 use crate::drawing::{directed, runs_along, segs, sided};
-use osm_geom::{Edge, Loc};
+use osm_geom::{Edges, Loc};
 use osm_rings::{Ring, rings};
 use std::alloc::Global;
 use std::test::Fail;
@@ -20,8 +20,8 @@ fn are_along(rings: &[Ring], lines: &str) -> bool {
 }
 
 /// Whether the sided edges are cut into rings along these lines.
-fn are_cut(alloc: Global, edges: &[Edge], lines: &str) -> Result<bool, Fail>
-    requires { IsSided edges.now }
+fn are_cut(alloc: Global, edges: Edges, lines: &str) -> Result<bool, Fail>
+    requires { IsSided edges }
 {
     let rings = rings(alloc, edges)?;
     Ok(are_along(rings.as_slice(), lines))
@@ -30,7 +30,7 @@ fn are_cut(alloc: Global, edges: &[Edge], lines: &str) -> Result<bool, Fail>
 /// Whether the edges along closed lines, or what cuts keep of them, are cut into rings along these lines.
 fn come_in_rings(alloc: Global, lines: &str, cuts: &str, wanted: &str) -> Result<bool, Fail> {
     let edges = sided(alloc, lines, cuts)?;
-    are_cut(alloc, edges.as_slice(), wanted)
+    are_cut(alloc, edges, wanted)
 }
 
 /// What lines show, and the lines: outer rings counterclockwise, inner ones clockwise. Each line is a ring.
@@ -167,8 +167,8 @@ fn at(x: u8) -> Result<Loc, Fail> {
 }
 
 /// Whether the edges are cut into one ring that has so many.
-fn is_one_ring(alloc: Global, edges: &[Edge], count: usize) -> Result<bool, Fail>
-    requires { IsSided edges.now }
+fn is_one_ring(alloc: Global, edges: Edges, count: usize) -> Result<bool, Fail>
+    requires { IsSided edges }
 {
     let rings = rings(alloc, edges)?;
     match rings.as_slice() {
@@ -181,7 +181,7 @@ fn is_one_ring(alloc: Global, edges: &[Edge], count: usize) -> Result<bool, Fail
 fn is_parabola_one_ring(alloc: Global, count: u8) -> Result<bool, Fail> {
     let steps = parabola(alloc, count)?;
     let edges = directed(alloc, &segs(alloc, &steps)?)?;
-    is_one_ring(alloc, edges.as_slice(), usize::from(count))
+    is_one_ring(alloc, edges, usize::from(count))
 }
 
 /// With 32 edges they are walked as they are, with more they are sorted first.
