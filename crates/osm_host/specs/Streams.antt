@@ -16,6 +16,17 @@ abbrev pub held_by : {W O : Type 0} → (O → Option (List ℕ)) → (W → Opt
 held_by standard opened output sink.Standard = standard output
 held_by standard opened output (sink.Opened file) = opened file
 
+-- it is standard input, or a file of which this is true
+abbrev pub is_source : {R : Type 0} → (R → Bool) → Source R → Bool
+is_source opened source.Nothing = false
+is_source opened source.Standard = true
+is_source opened (source.Opened file) = opened file
+
+-- it is standard output, or a file of which this is true
+abbrev pub is_sink : {W : Type 0} → (W → Bool) → Sink W → Bool
+is_sink opened sink.Standard = true
+is_sink opened (sink.Opened file) = opened file
+
 -- the input is standard input
 abbrev pub is_standard_source : {R : Type 0} → Source R → Bool
 is_standard_source source.Nothing = false

@@ -1,6 +1,6 @@
 //! What opens files by their names.
 
-ghost use Rattle.std.specs.Prelude.{◌≡◌, ℕ, List, [], ◌∷◌, Option, None};
+ghost use Rattle.std.specs.Prelude.{◌≡◌, ℕ, Bool, IfOk, List, [], ◌∷◌, Option, None, true};
 ghost use Rattle.std.specs.Io.KnownBytes.{Keeps};
 ghost use Rattle.osm_host.specs.Outside.{Opened, input, output, appended};
 
@@ -16,13 +16,22 @@ pub trait Opener<R: Read, W: Write> {
     /// The opens that were asked for, in order, if they are known.
     ghost asked: { Self → Option (List Opened) };
 
+    /// Whether a reader is as it was opened under a name: nothing is taken from it yet. If that can't be known, it is true of all.
+    ghost is_reader: { R → List ℕ → Bool };
+
+    /// Whether a writer is as it was opened under a name, overwriting or not: nothing is written to it yet.
+    ghost is_writer: { W → List ℕ → Bool → Bool };
+
     /// Opens a file for reading.
     fn open_reader(&mut self, name: &str) -> Result<R, Failed>
-        ensures { asked self.new ≡ appended (asked self.old) (input name.now ∷ []) };
+        ensures asked { asked self.new ≡ appended (asked self.old) (input name.now ∷ []) }
+        ensures opened { IfOk result (λ file. is_reader file name.now ≡ true) };
 
     /// Opens a file for writing: without `overwrite` a new one, never an existing one.
     fn open_writer(&mut self, name: &str, overwrite: bool) -> Result<W, Failed>
-        ensures { asked self.new ≡ appended (asked self.old) (output name.now overwrite ∷ []) };
+        ensures asked { asked self.new
+            ≡ appended (asked self.old) (output name.now overwrite ∷ []) }
+        ensures opened { IfOk result (λ file. is_writer file name.now overwrite ≡ true) };
 
     /// Makes the system keep what was written to a file.
     fn keep(&mut self, file: &mut W) -> Result<(), Failed>
@@ -61,6 +70,10 @@ fn beside_standard(opened: io::Result<File>) -> Result<File, Failed> {
 
 impl Opener<File, File> for SystemFiles {
     ghost asked = { λ _. None };
+
+    ghost is_reader = { λ _ _. true };
+
+    ghost is_writer = { λ _ _ _. true };
 
     fn open_reader(&mut self, name: &str) -> Result<File, Failed> {
         beside_standard(File::open(&self.rt, name))

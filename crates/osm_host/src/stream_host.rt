@@ -1,10 +1,10 @@
 //! The host over an opener of files and any three standard streams.
 
 ghost use Rattle.std.specs.Prelude.{◌≡◌, ◌⊎◌, ◌<◌, ◌≤◌, [], ◌∷◌, length, take, is_ok, is_some, not, true, false, codes, IfOk, OnOk, OnErr, IfSome};
-ghost use Rattle.std.specs.Io.KnownBytes.{ReadConsumes, WriteAppends};
+ghost use Rattle.std.specs.Io.KnownBytes.{Keeps, ReadConsumes, WriteAppends};
 ghost use Rattle.std.specs.Str.{bytes_eq};
 ghost use Rattle.osm_host.specs.Outside.{input, output, appended, preceded, grown, finds_end, Counts, OnlyOpens, OnlyReads, OnlyWritesOut, OnlyWritesReport};
-ghost use Rattle.osm_host.specs.Streams.{left_in, held_by};
+ghost use Rattle.osm_host.specs.Streams.{left_in, held_by, is_standard_source, is_standard_sink};
 
 use crate::edge::{put, take};
 use crate::host::{Failed, Faults, Host, NO_FAULTS, note_fault};
@@ -45,11 +45,12 @@ pub struct StreamHost<D, R, W, I, O, E> {
 }
 
 impl<D, R, W, I, O, E> StreamHost<D, R, W, I, O, E> {
-    ghost use Rattle.osm_host.specs.StreamHost.{fresh_outside, stream_outside};
+    ghost use Rattle.osm_host.specs.StreamHost.{fresh_outside, stream_outside, HasParts};
 
     /// The host over these parts, before anything is open or has failed.
     pub fn over(opener: D, input: I, output: O, report: E) -> StreamHost<D, R, W, I, O, E>
-        ensures { stream_outside result ≡ fresh_outside }
+        ensures fresh { stream_outside result ≡ fresh_outside }
+        ensures parts { HasParts opener input output report result }
     {
         StreamHost {
             opener,
@@ -75,6 +76,8 @@ fn take_off<R: Read, I: Read>(
     ensures count { IfOk result (λ n. n ≤ length buf.new) }
     ensures bytes { ReadConsumes (left_in I.remaining R.remaining standard.old source.old)
         (left_in I.remaining R.remaining standard.new source.new) result buf.new }
+    ensures standard { is_standard_source source.old ≡ false → standard.new ≡ standard.old }
+    ensures source { is_standard_source source.old ≡ true → source.new ≡ source.old }
 {
     match source {
         Source::Nothing => Ok(0),
@@ -92,6 +95,8 @@ fn put_into<W: Write, O: Write>(
     ensures count { IfOk result (λ n. (0 < n) × (n ≤ length bytes.now)) }
     ensures bytes { WriteAppends (held_by O.contents W.contents standard.old sink.old)
         (held_by O.contents W.contents standard.new sink.new) result bytes.now }
+    ensures standard { is_standard_sink sink.old ≡ false → standard.new ≡ standard.old }
+    ensures sink { is_standard_sink sink.old ≡ true → sink.new ≡ sink.old }
 {
     match sink {
         Sink::Standard => put(standard, bytes),
@@ -101,7 +106,8 @@ fn put_into<W: Write, O: Write>(
 
 impl<D: Opener<R, W> + Drop, R: Read + Drop, W: Write + Drop, I: Read, O: Write, E: Write> Host
     for StreamHost<D, R, W, I, O, E> {
-    ghost use Rattle.osm_host.specs.StreamHost.{stream_outside, files_asked, asked_behind, input_left, output_held, report_held, reads_file, reads_standard, writes_standard};
+    ghost use Rattle.osm_host.specs.StreamHost.{stream_outside, files_asked, asked_behind, input_left, output_held, report_held, reads_file, reads_from, reads_standard, writes_standard, writes_to};
+    ghost use Rattle.osm_host.specs.StreamHost.{KeepsSink, KeepsSource, OnlyReportIsWritten, OnlySinkIsWritten, OnlySinkOpens, OnlySourceIsRead, OnlySourceOpens};
 
     ghost seen = { stream_outside };
 
@@ -126,6 +132,9 @@ impl<D: Opener<R, W> + Drop, R: Read + Drop, W: Write + Drop, I: Read, O: Write,
             ≡ bytes_eq name.now (codes "-")) }
         ensures from_file { OnOk result (reads_file self.new
             ≡ not (bytes_eq name.now (codes "-"))) }
+        ensures from_beginning { OnOk result (reads_from D.is_reader name.now self.new ≡ true) }
+        ensures alone { OnlySourceOpens self.old self.new }
+        ensures stays { OnErr result (KeepsSource self.old self.new) }
     {
         if name == "-" {
             self.source = Source::Standard;
@@ -162,6 +171,7 @@ impl<D: Opener<R, W> + Drop, R: Read + Drop, W: Write + Drop, I: Read, O: Write,
         ensures consumed { 0 < length buf.old
             → ReadConsumes (input_left I.remaining R.remaining self.old)
             (input_left I.remaining R.remaining self.new) result buf.new }
+        ensures alone { OnlySourceIsRead self.old self.new }
     {
         self.read_failed = false;
         if buf.is_empty() {
@@ -193,6 +203,10 @@ impl<D: Opener<R, W> + Drop, R: Read + Drop, W: Write + Drop, I: Read, O: Write,
             ≡ asked_behind (files_asked D.asked self.old) name.now (output name.now overwrite) }
         ensures to_standard { OnOk result (writes_standard self.new
             ≡ bytes_eq name.now (codes "-")) }
+        ensures to_opened { OnOk result (writes_to D.is_writer name.now overwrite self.new
+            ≡ true) }
+        ensures alone { OnlySinkOpens self.old self.new }
+        ensures stays { OnErr result (KeepsSink self.old self.new) }
     {
         if name == "-" {
             self.sink = Sink::Standard;
@@ -219,7 +233,7 @@ impl<D: Opener<R, W> + Drop, R: Read + Drop, W: Write + Drop, I: Read, O: Write,
         ensures appends { 0 < length bytes.now
             → WriteAppends (output_held O.contents W.contents self.old)
             (output_held O.contents W.contents self.new) result bytes.now }
-        ensures report_stays { report_held E.contents self.new ≡ report_held E.contents self.old }
+        ensures alone { OnlySinkIsWritten self.old self.new }
     {
         if bytes.is_empty() {
             return Ok(0);
@@ -235,7 +249,10 @@ impl<D: Opener<R, W> + Drop, R: Read + Drop, W: Write + Drop, I: Read, O: Write,
         ensures cause { Counts (stream_outside self.old).write_faults
             (stream_outside self.new).write_faults result }
         ensures rest { OnlyWritesOut (stream_outside self.old) (stream_outside self.new) }
-        ensures report_stays { report_held E.contents self.new ≡ report_held E.contents self.old }
+        ensures asked { files_asked D.asked self.new ≡ files_asked D.asked self.old }
+        ensures output_stays { Keeps (output_held O.contents W.contents self.old)
+            (output_held O.contents W.contents self.new) }
+        ensures alone { OnlySinkOpens self.old self.new }
     {
         let kept = match &mut self.sink {
             Sink::Standard => Ok(()),
@@ -261,8 +278,7 @@ impl<D: Opener<R, W> + Drop, R: Read + Drop, W: Write + Drop, I: Read, O: Write,
         ensures appends { 0 < length bytes.now
             → WriteAppends (report_held E.contents self.old) (report_held E.contents self.new)
             result bytes.now }
-        ensures output_stays { output_held O.contents W.contents self.new
-            ≡ output_held O.contents W.contents self.old }
+        ensures alone { OnlyReportIsWritten self.old self.new }
     {
         if bytes.is_empty() {
             return Ok(0);

@@ -54,9 +54,11 @@ fn begins_with(host: &mut StdHost, name: &str, text: &[u8]) -> bool {
     }
 }
 
-/// Whether an output can be opened and a text written to it.
+/// Whether an output can be opened, and a text written to it and kept.
 fn writes(host: &mut StdHost, name: &str, overwrite: bool, text: &str) -> bool {
-    host.open_output(name, overwrite).is_ok() && write_all_out(host, text.as_bytes()).is_ok()
+    host.open_output(name, overwrite).is_ok()
+        && write_all_out(host, text.as_bytes()).is_ok()
+        && host.keep_output().is_ok()
 }
 
 /// Whether a file holds just this text.
