@@ -7,7 +7,7 @@ _osmpoly() {
   fi
   case $command$before in
     export-f | export--output-format) words="geojson geojsonseq text" ;;
-    *-u | *--add-unique-id) words="counter type_id" ;;
+        export-u | export--add-unique-id | certify-u | certify--add-unique-id) words="counter type_id" ;;
     coastline-p | coastline--output-polygons) words="land water both none" ;;
     *)
       case $command in
