@@ -1,6 +1,6 @@
 //! The work: assembles each candidate's area, and writes it with the following ones, or before the next report line.
 
-ghost use Rattle.std.specs.Prelude.{◌≡◌, ◌+◌, ◌≤◌, All, IfOk, IsSome, Ok};
+ghost use Rattle.std.specs.Prelude.{◌≡◌, ◌+◌, ◌≤◌, All, IfOk, IsSome, Ok, length};
 ghost use Rattle.job_export.specs.AdditionSteps.{WroteAddition};
 ghost use Rattle.job_export.specs.ExportSteps.{WroteWhole, WroteCandidates, WroteCandidate, ended_by_halt};
 ghost use Rattle.job_export.specs.Reports.{TellsKinds};
@@ -15,7 +15,7 @@ use crate::choice::candidates_of;
 use crate::entry::{Addition, addition_of};
 use crate::framing::{footer, header};
 use crate::laws::export_exists;
-use crate::writing::{write_last, write_waiting};
+use crate::writing::{PIECE, write_last, write_waiting};
 use osm_area::outcome_exists;
 use osm_elements::ObjectRef;
 use osm_host::{Host, streams_append};
@@ -147,9 +147,6 @@ fn write_candidates<H: Host>(
     Ok(())
 }
 
-/// Waiting features are written once they have this many bytes.
-const MANY: usize = 65_536;
-
 /// Assembles a candidate that follows `earlier` features, and writes what it adds after the features that wait.
 ///
 /// A feature alone waits too. If memory runs out, the features that wait are written before the run ends. The answer is the
@@ -171,13 +168,15 @@ fn write_candidate<H: Host>(
 {
     outcome_exists();
     problem_line_exists();
+    let begin = waiting.len();
     let Ok(addition) = addition_of(alloc, waiting, store, settings, candidate, earlier) else {
         return Err(write_last(host, waiting));
     };
-    write_addition(alloc, settings, candidate, &addition, waiting, host)
+    write_addition(alloc, settings, candidate, &addition, waiting, begin, host)
 }
 
-/// Writes what a candidate adds, whose feature is the last that waits. A feature alone goes on waiting.
+/// Writes what a candidate adds, whose feature is the last that waits and begins at a place. A feature alone goes on waiting
+/// if one piece has room for all that wait.
 ///
 /// The answer is the number of the candidate's features, 1 or 0.
 fn write_addition<H: Host>(
@@ -186,17 +185,19 @@ fn write_addition<H: Host>(
     candidate: ObjectRef,
     addition: &Addition,
     waiting: &mut Vec<u8>,
+    begin: usize,
     host: &mut H,
 ) -> Result<u64, Halt>
-    requires { TellsKinds addition.now.report }
+    requires told { TellsKinds addition.now.report }
+    requires within { begin ≤ length waiting.old.items }
     ensures one { IfOk result (λ count. count ≤ 1) }
     ensures wrote { WroteAddition (settings_seen settings.now) candidate addition.now
         waiting.old.items waiting.new.items (H.seen host.old) (H.seen host.new) result }
 {
-    if addition.is_feature_alone() && waiting.len() < MANY {
+    if addition.is_feature_alone() && waiting.len() <= PIECE {
         return Ok(1);
     }
-    if let Err(halt) = write_waiting(alloc, host, waiting, candidate, &addition.report) {
+    if let Err(halt) = write_waiting(alloc, host, waiting, begin, candidate, &addition.report) {
         return Err(halt);
     }
     if addition.has_feature {

@@ -3,8 +3,8 @@ use Rattle.osm_words.specs.Answers.{settings_seen}
 use Rattle.job_export.proofs.Candidates.{broken_off, feature_waits, feature_written, problems_written, stops_written}
 use Rattle.job_export.proofs.work.write_addition.Goals as goal
 
-pub returns-then-len-lt-MANY-clause-wrote : goal.returns-then-len-lt-MANY-clause-wrote
-returns-then-len-lt-MANY-clause-wrote g c objects earlier waited is =
+pub returns-then-len-le-PIECE-clause-wrote : goal.returns-then-len-le-PIECE-clause-wrote
+returns-then-len-le-PIECE-clause-wrote g c objects earlier waited is =
     feature_waits (settings_seen c.args.settings.now) objects earlier c.args.candidate waited c.args.waiting.now.items
     (g.H.Host.seen c.args.host.now) c.args.addition.now is (c.if-is_feature_alone.ensures.feature refl) (c.if-is_feature_alone.ensures.alone refl c.args.candidate)
 
